@@ -1,0 +1,9 @@
+use Rattle.std.proofs.Common.{rules}
+use Rattle.std.proofs.lemmas.Iterator.Consumers.{count_from_yields_List}
+use Rattle.std.proofs.lemmas.Iterator.Splits.{YieldsList-from_slice_split}
+use Rattle.dr_base.specs.Paths.{is_slash}
+use Rattle.dr_base.proofs.path.part_count.Goals as goal
+use borrow.Author.Tests.{tests}
+
+pub returns : goal.returns
+returns c = count_from_yields_List _ _ c.count.ensures.ran (YieldsList-from_slice_split _ is_slash c.args.bytes.now c.split.ensures.rest c.split.ensures.done c.split.ensures.closure (λ x b q k. search (rules, tests)))

@@ -1,0 +1,9 @@
+pub mod Answers
+pub mod Causes
+pub mod Memory
+pub mod Names
+pub mod Padded
+pub mod Paths
+pub mod Sides
+pub mod Streams
+pub mod Texts
