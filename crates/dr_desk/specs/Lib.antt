@@ -1,0 +1,11 @@
+pub mod Calls
+pub mod Drafts
+pub mod Lines
+pub mod PairLists
+pub mod Rooms
+pub mod Starts
+pub mod Storage
+pub mod Streams
+pub mod Tests
+pub mod Texts
+pub mod Words

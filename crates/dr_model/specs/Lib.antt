@@ -1,0 +1,4 @@
+pub mod Codes
+pub mod Opening
+pub mod StartUp
+pub mod Testing

@@ -1,0 +1,9 @@
+pub mod Arrays
+pub mod BySide
+pub mod Commands
+pub mod Counts
+pub mod Machines
+pub mod Pairs
+pub mod PlainArrays
+pub mod PlainPorts
+pub mod Runners

@@ -1,0 +1,468 @@
+ghost use Rattle.std.specs.Prelude.{◌≡◌, ℕ, ◌<◌, true, length, MatchOption, IfErr, IfOk, IfSome, if◌then◌else◌, Ok};
+ghost use Rattle.dr_outside.specs.declared.array.ArrayCall.TheVariants.{Sync, TestStart, TestStop, Prepare, Failover, Reverse};
+ghost use Rattle.dr_outside.specs.declared.array.ArrayFail.TheVariants.{Failed};
+ghost use Rattle.dr_outside.specs.Pairs.{is_fit, made, may_fail, half, target};
+ghost use Rattle.dr_outside.specs.Arrays.{is_listed, IsPairList, IsFirstUnfit, NamesListed, has_part, ArrayRead, ArrayStep, ArrayCause};
+ghost use Rattle.dr_outside.specs.PlainArrays.{PlainStep, pair_at, side_to_fail, opening_array, state_of, each_alone};
+
+use crate::{Array, ArrayCall, ArrayFail, Content, Half, Link, Pair, Sides, Snapshot};
+use dr_base::{NoMemory, Side};
+use std::alloc::Global;
+use std::marker::Model;
+
+// Whether a pair is as the call needs it.
+fn fits(call: ArrayCall, pair: &Pair) -> bool
+    ensures { result ≡ is_fit call pair.now }
+{
+    let live = pair.link == Link::Live;
+    let source_writable = pair.writable.at(pair.source);
+    let target_writable = pair.writable.at(pair.source.other());
+    match call {
+        ArrayCall::Sync => live,
+        ArrayCall::TestStart(_) => live && pair.snapshot.is_none(),
+        ArrayCall::TestStop => pair.snapshot.is_some(),
+        ArrayCall::Prepare => source_writable,
+        ArrayCall::Failover(_) => live && !target_writable,
+        ArrayCall::Reverse => !live && !source_writable && target_writable,
+    }
+}
+
+// What the call makes of a pair.
+fn make(call: ArrayCall, pair: &Pair) -> Pair
+    ensures { result ≡ made call pair.now }
+{
+    let old = *pair;
+    let source = old.source;
+    let target = source.other();
+    let behind = old.content.at(target);
+    match call {
+        ArrayCall::Sync => Pair {
+            content: old.content.put(target, old.content.at(source)),
+            ..old
+        },
+        ArrayCall::TestStart(run) => Pair {
+            snapshot: Some(Snapshot {
+                run,
+                content: behind,
+            }),
+            ..old
+        },
+        ArrayCall::TestStop => Pair {
+            snapshot: None,
+            ..old
+        },
+        ArrayCall::Prepare => Pair {
+            writable: old.writable.put(source, false),
+            ..old
+        },
+        ArrayCall::Failover(run) => Pair {
+            link: Link::Split,
+            writable: old.writable.put(target, true),
+            content: old.content.put(
+                target,
+                Content {
+                    line: run,
+                    base: behind.writes,
+                    writes: behind.writes,
+                },
+            ),
+            ..old
+        },
+        ArrayCall::Reverse => Pair {
+            source: target,
+            link: Link::Live,
+            content: old.content.put(
+                source,
+                Content {
+                    writes: behind.base,
+                    ..behind
+                },
+            ),
+            ..old
+        },
+    }
+}
+
+// The first pair of the list that isn't as the call needs it.
+fn first_unfit(call: ArrayCall, pairs: &[Pair], list: &[u32]) -> Option<u32>
+    requires { IsPairList (length pairs.now) list.now }
+    ensures { MatchOption result
+        ((j : ℕ) → is_listed list.now j ≡ true → is_fit call (pair_at pairs.now j) ≡ true)
+        (λ k. IsFirstUnfit call list.now (pair_at pairs.now) k) }
+{
+    for k in list {
+        if !fits(call, &pairs[*k as usize]) {
+            return Some(*k);
+        }
+    }
+    None
+}
+
+// Makes each pair of the list.
+fn make_all(call: ArrayCall, pairs: &mut [Pair], list: &[u32])
+    requires { IsPairList (length pairs.old) list.now }
+    ensures { (i : ℕ) → pair_at pairs.new i ≡
+        (if is_listed list.now i then made call (pair_at pairs.old i) else pair_at pairs.old i) }
+{
+    for k in list {
+        let place = *k as usize;
+        pairs[place] = make(call, &pairs[place]);
+    }
+}
+
+// Whether a fault of the call may be this side's, at one pair.
+fn may_fail_at(call: ArrayCall, pair: &Pair, side: Side) -> bool
+    ensures { result ≡ may_fail call pair.now side }
+{
+    match call {
+        ArrayCall::Sync | ArrayCall::Reverse => true,
+        ArrayCall::Prepare => side == pair.source,
+        ArrayCall::TestStart(_) | ArrayCall::TestStop | ArrayCall::Failover(_) => {
+            side == pair.source.other()
+        }
+    }
+}
+
+// Whether a fault of the call may be this side's.
+fn can_answer(call: ArrayCall, pairs: &[Pair], list: &[u32], side: Side) -> bool
+    requires { IsPairList (length pairs.now) list.now }
+    ensures { result ≡ has_part call list.now (pair_at pairs.now) side }
+{
+    for k in list {
+        if may_fail_at(call, &pairs[*k as usize], side) {
+            return true;
+        }
+    }
+    list.is_empty()
+}
+
+// The side at which the call of this number is to fail.
+fn listed_side(
+    fails: &[(u64, Side)],
+    number: u64,
+    call: ArrayCall,
+    pairs: &[Pair],
+    list: &[u32],
+) -> Option<Side>
+    requires { IsPairList (length pairs.now) list.now }
+    ensures first { result ≡ side_to_fail number (has_part call list.now (pair_at pairs.now)) fails.now }
+    ensures usable { IfSome result (λ side. has_part call list.now (pair_at pairs.now) side ≡ true) }
+{
+    for fail in fails {
+        if fail.0 == number && can_answer(call, pairs, list, fail.1) {
+            return Some(fail.1);
+        }
+    }
+    None
+}
+
+// A pair as one side shows it.
+fn half_of(pair: &Pair, side: Side) -> Half
+    ensures { result ≡ half side pair.now }
+{
+    Half {
+        source: pair.source,
+        link: pair.link,
+        writable: pair.writable.at(side),
+        content: pair.content.at(side),
+        snapshot: pair.snapshot,
+    }
+}
+
+// The pair of this number as its target shows it.
+fn target_half(pairs: &[Pair], k: u32) -> Half
+    requires { k < length pairs.now }
+    ensures { result ≡ half (target (pair_at pairs.now k)) (pair_at pairs.now k) }
+{
+    let pair = &pairs[k as usize];
+    half_of(pair, pair.source.other())
+}
+
+/// An array in memory. Each pair is a consistency group by itself. Its calls happen at once, and
+/// fail where that is listed.
+#[derive(Drop)]
+pub struct PlainArray {
+    pairs: Vec<Pair>,
+    calls: u64,
+    fails: Vec<(u64, Side)>,
+    faults: Sides<u64>,
+}
+
+impl Model for PlainArray {
+    ghost use Rattle.std.specs.Prelude.{◌<◌, ◌^◌, length};
+    ghost use Rattle.dr_outside.specs.PlainArrays.{PlainArrayState};
+
+    ghost Value = { PlainArrayState };
+
+    ghost view = { λ array. record { pairs = array.pairs.items; calls = array.calls; fails = array.fails.items; faults = array.faults } };
+
+    ghost invariant = { λ array. length array.pairs.items < 2 ^ 32 };
+}
+
+impl PlainArray {
+    /// So many live pairs with 100 writes at A, their source, and 95 at B.
+    ///
+    /// The calls on lists count from 1. An entry of `fails` is the number of a call that is to fail
+    /// and its side: such a call raises that side's count and changes no pair. An entry with a side
+    /// that isn't its call's to answer is not used, and of several for one call the first that can
+    /// be used counts.
+    pub fn opening(
+        alloc: Global,
+        pairs: u32,
+        fails: Vec<(u64, Side)>,
+    ) -> Result<PlainArray, NoMemory>
+        ensures { IfOk result (λ array. array ≡ opening_array pairs fails.items) }
+    {
+        let content = |writes| Content {
+            line: 0,
+            base: 0,
+            writes,
+        };
+        let pair = Pair {
+            source: Side::A,
+            link: Link::Live,
+            writable: Sides::only(Side::A),
+            content: Sides {
+                a: content(100),
+                b: content(95),
+            },
+            snapshot: None,
+        };
+        let Ok(pairs) = vec![in alloc; pair; pairs as usize] else {
+            return Err(NoMemory);
+        };
+        Ok(PlainArray {
+            pairs,
+            calls: 0,
+            fails,
+            faults: Sides { a: 0, b: 0 },
+        })
+    }
+
+    // One call on a list of pairs.
+    fn run(&mut self, call: ArrayCall, list: &[u32]) -> Result<(), ArrayFail>
+        requires { IsPairList (length self.old.pairs) list.now }
+        ensures listed { NamesListed list.now result }
+        ensures cause { ArrayCause (state_of self.old) (state_of self.new) result }
+        ensures step { ArrayStep call list.now (state_of self.old) (state_of self.new) result }
+        ensures exact { PlainStep call list.now self.old self.new result }
+    {
+        self.calls = self.calls.saturating_add(1);
+        if let Some(side) = listed_side(&self.fails, self.calls, call, &self.pairs, list) {
+            self.faults.raise(side);
+            return Err(ArrayFail::Failed(side));
+        }
+        if let Some(k) = first_unfit(call, &self.pairs, list) {
+            return Err(ArrayFail::Wrong(k, target_half(&self.pairs, k)));
+        }
+        make_all(call, &mut self.pairs, list);
+        Ok(())
+    }
+}
+
+impl Array for PlainArray {
+    ghost tells = { Unit {0} };
+
+    ghost state = { state_of };
+
+    ghost grouped = { λ array told. each_alone };
+
+    fn pairs(&self) -> u32 {
+        self.pairs.len() as u32
+    }
+
+    fn pair(&mut self, i: u32, side: Side) -> Result<Half, ArrayFail>
+        requires { i < (state_of self.old).count }
+        ensures only { IfErr result (λ e. e ≡ Failed side) }
+        ensures cause { ArrayCause (state_of self.old) (state_of self.new) result }
+        ensures step { ArrayRead i side (state_of self.old) (state_of self.new) result }
+        ensures seen { result ≡ Ok (half side (pair_at self.old.pairs i)) }
+        ensures same { self.new ≡ self.old }
+    {
+        Ok(half_of(&self.pairs[i as usize], side))
+    }
+
+    fn sync(&mut self, list: &[u32]) -> Result<(), ArrayFail>
+        requires { IsPairList (state_of self.old).count list.now }
+        ensures listed { NamesListed list.now result }
+        ensures cause { ArrayCause (state_of self.old) (state_of self.new) result }
+        ensures step { ArrayStep Sync list.now (state_of self.old) (state_of self.new) result }
+        ensures exact { PlainStep Sync list.now self.old self.new result }
+    {
+        self.run(ArrayCall::Sync, list)
+    }
+
+    fn test_start(&mut self, run: u32, list: &[u32]) -> Result<(), ArrayFail>
+        requires { IsPairList (state_of self.old).count list.now }
+        ensures listed { NamesListed list.now result }
+        ensures cause { ArrayCause (state_of self.old) (state_of self.new) result }
+        ensures step { ArrayStep (TestStart run) list.now (state_of self.old) (state_of self.new) result }
+        ensures exact { PlainStep (TestStart run) list.now self.old self.new result }
+    {
+        self.run(ArrayCall::TestStart(run), list)
+    }
+
+    fn test_stop(&mut self, list: &[u32]) -> Result<(), ArrayFail>
+        requires { IsPairList (state_of self.old).count list.now }
+        ensures listed { NamesListed list.now result }
+        ensures cause { ArrayCause (state_of self.old) (state_of self.new) result }
+        ensures step { ArrayStep TestStop list.now (state_of self.old) (state_of self.new) result }
+        ensures exact { PlainStep TestStop list.now self.old self.new result }
+    {
+        self.run(ArrayCall::TestStop, list)
+    }
+
+    fn prepare(&mut self, list: &[u32]) -> Result<(), ArrayFail>
+        requires { IsPairList (state_of self.old).count list.now }
+        ensures listed { NamesListed list.now result }
+        ensures cause { ArrayCause (state_of self.old) (state_of self.new) result }
+        ensures step { ArrayStep Prepare list.now (state_of self.old) (state_of self.new) result }
+        ensures exact { PlainStep Prepare list.now self.old self.new result }
+    {
+        self.run(ArrayCall::Prepare, list)
+    }
+
+    fn failover(&mut self, run: u32, list: &[u32]) -> Result<(), ArrayFail>
+        requires { IsPairList (state_of self.old).count list.now }
+        ensures listed { NamesListed list.now result }
+        ensures cause { ArrayCause (state_of self.old) (state_of self.new) result }
+        ensures step { ArrayStep (Failover run) list.now (state_of self.old) (state_of self.new) result }
+        ensures exact { PlainStep (Failover run) list.now self.old self.new result }
+    {
+        self.run(ArrayCall::Failover(run), list)
+    }
+
+    fn reverse(&mut self, list: &[u32]) -> Result<(), ArrayFail>
+        requires { IsPairList (state_of self.old).count list.now }
+        ensures listed { NamesListed list.now result }
+        ensures cause { ArrayCause (state_of self.old) (state_of self.new) result }
+        ensures step { ArrayStep Reverse list.now (state_of self.old) (state_of self.new) result }
+        ensures exact { PlainStep Reverse list.now self.old self.new result }
+    {
+        self.run(ArrayCall::Reverse, list)
+    }
+}
+
+#[cfg(test)]
+mod tests {
+    use super::*;
+    use std::test::Fail;
+
+    const FIRST: Half = Half {
+        source: Side::A,
+        link: Link::Live,
+        writable: false,
+        content: Content {
+            line: 0,
+            base: 0,
+            writes: 95,
+        },
+        snapshot: None,
+    };
+
+    const fn content(line: u32, base: u64, writes: u64) -> Content {
+        Content { line, base, writes }
+    }
+
+    #[test]
+    fn a_pair_goes_through_a_test(rt: HostRuntime) -> Result<(), Fail> {
+        let mut array = PlainArray::opening(rt.alloc(), 1, Vec::new(rt.alloc()))?;
+        assert_eq!(rt; array.pair(0, Side::B), Ok(FIRST));
+        assert_eq!(rt; array.test_stop(&[0]), Err(ArrayFail::Wrong(0, FIRST)));
+        assert_eq!(rt; array.sync(&[0]), Ok(()));
+        assert_eq!(rt; array.test_start(7, &[0]), Ok(()));
+        let tested = Half {
+            content: content(0, 0, 100),
+            snapshot: Some(Snapshot {
+                run: 7,
+                content: content(0, 0, 100),
+            }),
+            ..FIRST
+        };
+        assert_eq!(rt; array.pair(0, Side::B), Ok(tested));
+        assert_eq!(rt; array.test_start(8, &[0]), Err(ArrayFail::Wrong(0, tested)));
+        assert_eq!(rt; array.test_stop(&[0]), Ok(()));
+        assert_eq!(rt;
+            array.pair(0, Side::B),
+            Ok(Half {
+                content: content(0, 0, 100),
+                ..FIRST
+            })
+        );
+        Ok(())
+    }
+
+    #[test]
+    fn a_pair_goes_over_and_turns_round(rt: HostRuntime) -> Result<(), Fail> {
+        let mut array = PlainArray::opening(rt.alloc(), 1, Vec::new(rt.alloc()))?;
+        assert_eq!(rt; array.reverse(&[0]), Err(ArrayFail::Wrong(0, FIRST)));
+        assert_eq!(rt; array.prepare(&[0]), Ok(()));
+        assert_eq!(rt; array.prepare(&[0]), Err(ArrayFail::Wrong(0, FIRST)));
+        assert_eq!(rt; array.failover(9, &[0]), Ok(()));
+        let over = Half {
+            link: Link::Split,
+            writable: true,
+            content: content(9, 95, 95),
+            ..FIRST
+        };
+        assert_eq!(rt; array.pair(0, Side::B), Ok(over));
+        assert_eq!(rt; array.failover(9, &[0]), Err(ArrayFail::Wrong(0, over)));
+        assert_eq!(rt; array.sync(&[0]), Err(ArrayFail::Wrong(0, over)));
+        assert_eq!(rt; array.reverse(&[0]), Ok(()));
+        let old_source = Half {
+            source: Side::B,
+            content: content(9, 95, 95),
+            ..FIRST
+        };
+        assert_eq!(rt; array.pair(0, Side::A), Ok(old_source));
+        assert_eq!(rt;
+            array.pair(0, Side::B),
+            Ok(Half {
+                writable: true,
+                ..old_source
+            })
+        );
+        Ok(())
+    }
+
+    #[test]
+    fn a_refused_call_names_the_first_pair_and_changes_none(rt: HostRuntime) -> Result<(), Fail> {
+        let mut array = PlainArray::opening(rt.alloc(), 3, Vec::new(rt.alloc()))?;
+        assert_eq!(rt; array.sync(&[1]), Ok(()));
+        assert_eq!(rt; array.test_start(1, &[1]), Ok(()));
+        assert_eq!(rt;
+            array.test_stop(&[0, 1, 2]),
+            Err(ArrayFail::Wrong(0, FIRST))
+        );
+        assert_eq!(rt; array.test_start(2, &[0, 2]), Ok(()));
+        assert_eq!(rt; array.pair(1, Side::A).is_ok(), true);
+        assert_eq!(rt; array.test_stop(&[0, 1, 2]), Ok(()));
+        assert_eq!(rt; array.pair(2, Side::B), Ok(FIRST));
+        Ok(())
+    }
+
+    #[test]
+    fn a_listed_call_fails_at_the_first_side_that_it_can_answer(
+        rt: HostRuntime,
+    ) -> Result<(), Fail> {
+        let fails = [
+            (1, Side::A),
+            (1, Side::B),
+            (2, Side::A),
+            (3, Side::B),
+            (3, Side::A),
+            (4, Side::B),
+            (6, Side::A),
+        ];
+        let fails = Vec::from_array(rt.alloc(), fails)?;
+        let mut array = PlainArray::opening(rt.alloc(), 1, fails)?;
+        assert_eq!(rt; array.test_start(1, &[0]), Err(ArrayFail::Failed(Side::B)));
+        assert_eq!(rt; array.test_stop(&[0]), Err(ArrayFail::Wrong(0, FIRST)));
+        assert_eq!(rt; array.sync(&[0]), Err(ArrayFail::Failed(Side::B)));
+        assert_eq!(rt; array.prepare(&[]), Err(ArrayFail::Failed(Side::B)));
+        assert_eq!(rt; array.sync(&[]), Ok(()));
+        assert_eq!(rt; array.pair(0, Side::B), Ok(FIRST));
+        assert_eq!(rt; array.prepare(&[0]), Err(ArrayFail::Failed(Side::A)));
+        Ok(())
+    }
+}

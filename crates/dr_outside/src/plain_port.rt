@@ -1,0 +1,348 @@
+ghost use Rattle.std.specs.Prelude.{◌≡◌, ◌≤◌, if◌then◌else◌, true, IsTrue, IfErr, Ok};
+ghost use Rattle.dr_outside.specs.declared.machine.PortCall.TheVariants.{Register, Start, Stop, Unregister};
+ghost use Rattle.dr_outside.specs.declared.machine.PortFail.TheVariants.{Failed};
+ghost use Rattle.dr_outside.specs.declared.machine.Post.TheVariants.{Ready};
+ghost use Rattle.dr_base.specs.declared.side.Side.{Side};
+ghost use Rattle.dr_base.specs.Causes.{Rose};
+ghost use Rattle.dr_outside.specs.BySide.{at};
+ghost use Rattle.dr_outside.specs.Counts.{one_more_at};
+ghost use Rattle.dr_outside.specs.Commands.{code_of};
+ghost use Rattle.dr_outside.specs.Arrays.{is_listed};
+ghost use Rattle.dr_outside.specs.Machines.{is_ready_for, post_after, PortStep, PortRead, PortCause, RanRead, CommandStep, NeverRan, NeverWrong};
+ghost use Rattle.dr_outside.specs.PlainPorts.{opening_placed, opening_port, state_of, Counted, is_to_fail, CallEnds, CommandEnds};
+
+use crate::{Kept, Placed, Port, PortCall, PortFail, Post, Sides};
+use dr_base::{Name, Path, Placement, Side};
+use std::marker::Model;
+
+// Whether a post is as the call needs it.
+fn fits(call: &PortCall, post: &Post) -> bool
+    ensures { result ≡ is_ready_for call.now post.now }
+{
+    match (call, post) {
+        (PortCall::Register(_), Post::Placeholder) => true,
+        (PortCall::Start, Post::Off(_) | Post::On(_)) => true,
+        (PortCall::Stop, Post::On(_) | Post::Ready(_)) => true,
+        (PortCall::Unregister, Post::Off(_)) => true,
+        _ => false,
+    }
+}
+
+// What the call makes of a post that is as it needs it.
+fn make(call: &PortCall, post: &Post) -> Post
+    requires { is_ready_for call.now post.now ≡ true }
+    ensures { result ≡ post_after call.now post.now }
+{
+    match (call, post) {
+        (PortCall::Register(placed), _) => Post::Off(*placed),
+        (PortCall::Start, Post::Off(placed) | Post::On(placed)) => Post::Ready(*placed),
+        (PortCall::Stop, Post::On(placed) | Post::Ready(placed)) => Post::Off(*placed),
+        _ => Post::Placeholder,
+    }
+}
+
+// The code that is kept for a token.
+fn kept_code(kept: &[Kept], token: u64) -> Option<u8>
+    ensures { result ≡ code_of kept.now token }
+{
+    for one in kept {
+        if one.token == token {
+            return Some(one.code);
+        }
+    }
+    None
+}
+
+// Whether the call of this number is to fail. If so, a fault of this side is counted.
+fn fails_now(fails: &[u64], number: u64, side: Side, faults: &mut Sides<u64>) -> bool
+    ensures listed { result ≡ is_listed fails.now number }
+    ensures counted { faults.new ≡ (if result then one_more_at side faults.old else faults.old) }
+    ensures rose { IsTrue result → Rose (at side faults.old) (at side faults.new) }
+    ensures later { (s : Side) → at s faults.old ≤ at s faults.new }
+{
+    let listed = fails.contains(&number);
+    if listed {
+        faults.raise(side);
+    }
+    listed
+}
+
+// Where a machine runs at first.
+fn placed_at_first() -> Placed
+    ensures { result ≡ opening_placed }
+{
+    let (Some(network), Some(folder), Some(pool)) = (
+        Name::read(b"A"),
+        Path::read(b"A"),
+        Name::read(b"A"),
+    ) else {
+        unreachable!();
+    };
+    Placed {
+        place: Placement {
+            network,
+            folder,
+            pool,
+        },
+        bubble: false,
+    }
+}
+
+/// A machine in memory. Its calls happen at once, and fail where that is listed.
+#[derive(Drop)]
+pub struct PlainPort {
+    post: Sides<Post>,
+    kept: Vec<Kept>,
+    calls: u64,
+    fails: Vec<u64>,
+    faults: Sides<u64>,
+}
+
+impl Model for PlainPort {
+    ghost use Rattle.dr_outside.specs.PlainPorts.{PlainPortState};
+
+    ghost Value = { PlainPortState };
+
+    ghost view = { λ port. record { post = port.post; kept = port.kept.items; calls = port.calls; fails = port.fails.items; faults = port.faults } };
+}
+
+impl PlainPort {
+    /// A machine that is ready at A outside a bubble, with a network, a folder and a pool that are
+    /// each named `A`, and has a place at B.
+    ///
+    /// The calls other than `post` and `ran` count from 1. Each that is listed in `fails` fails: it
+    /// raises its side's count and changes nothing. A command's code is 0. Where no memory is left to
+    /// keep it, the command fails alike.
+    pub fn opening(fails: Vec<u64>) -> PlainPort
+        ensures { result ≡ opening_port fails.items }
+    {
+        PlainPort {
+            post: Sides {
+                a: Post::Ready(placed_at_first()),
+                b: Post::Placeholder,
+            },
+            kept: Vec::new(*fails.allocator()),
+            calls: 0,
+            fails,
+            faults: Sides { a: 0, b: 0 },
+        }
+    }
+
+    // One call that changes a post.
+    fn run(&mut self, call: &PortCall, side: Side) -> Result<(), PortFail>
+        ensures only { NeverRan result }
+        ensures cause { PortCause side (state_of self.old) (state_of self.new) result }
+        ensures step { PortStep call.now side (state_of self.old) (state_of self.new) result }
+        ensures counted { Counted self.old self.new }
+        ensures exact { CallEnds (is_to_fail self.old) side self.old self.new result }
+    {
+        self.calls = self.calls.saturating_add(1);
+        if fails_now(&self.fails, self.calls, side, &mut self.faults) {
+            return Err(PortFail::Failed);
+        }
+        let found = self.post.at(side);
+        if !fits(call, &found) {
+            return Err(PortFail::Wrong(found));
+        }
+        self.post = self.post.put(side, make(call, &found));
+        Ok(())
+    }
+}
+
+impl Port for PlainPort {
+    ghost tells = { Unit {0} };
+
+    ghost state = { state_of };
+
+    fn post(&mut self, side: Side) -> Result<Post, PortFail>
+        ensures only { IfErr result (λ e. e ≡ Failed) }
+        ensures cause { PortCause side (state_of self.old) (state_of self.new) result }
+        ensures step { PortRead side (state_of self.old) (state_of self.new) result }
+        ensures seen { result ≡ Ok (at side self.old.post) }
+        ensures same { self.new ≡ self.old }
+    {
+        Ok(self.post.at(side))
+    }
+
+    fn register(&mut self, side: Side, place: Placement, bubble: bool) -> Result<(), PortFail>
+        ensures only { NeverRan result }
+        ensures cause { PortCause side (state_of self.old) (state_of self.new) result }
+        ensures step { PortStep (Register (record { place = place; bubble = bubble })) side
+            (state_of self.old) (state_of self.new) result }
+        ensures counted { Counted self.old self.new }
+        ensures exact { CallEnds (is_to_fail self.old) side self.old self.new result }
+    {
+        self.run(&PortCall::Register(Placed { place, bubble }), side)
+    }
+
+    fn start(&mut self, side: Side) -> Result<(), PortFail>
+        ensures only { NeverRan result }
+        ensures cause { PortCause side (state_of self.old) (state_of self.new) result }
+        ensures step { PortStep Start side (state_of self.old) (state_of self.new) result }
+        ensures counted { Counted self.old self.new }
+        ensures exact { CallEnds (is_to_fail self.old) side self.old self.new result }
+    {
+        self.run(&PortCall::Start, side)
+    }
+
+    fn stop(&mut self, side: Side) -> Result<(), PortFail>
+        ensures only { NeverRan result }
+        ensures cause { PortCause side (state_of self.old) (state_of self.new) result }
+        ensures step { PortStep Stop side (state_of self.old) (state_of self.new) result }
+        ensures counted { Counted self.old self.new }
+        ensures exact { CallEnds (is_to_fail self.old) side self.old self.new result }
+    {
+        self.run(&PortCall::Stop, side)
+    }
+
+    fn unregister(&mut self, side: Side) -> Result<(), PortFail>
+        ensures only { NeverRan result }
+        ensures cause { PortCause side (state_of self.old) (state_of self.new) result }
+        ensures step { PortStep Unregister side (state_of self.old) (state_of self.new) result }
+        ensures counted { Counted self.old self.new }
+        ensures exact { CallEnds (is_to_fail self.old) side self.old self.new result }
+    {
+        self.run(&PortCall::Unregister, side)
+    }
+
+    fn ran(&mut self, _side: Side, token: u64) -> Result<Option<u8>, PortFail>
+        ensures only { IfErr result (λ e. e ≡ Failed) }
+        ensures cause { PortCause _side (state_of self.old) (state_of self.new) result }
+        ensures step { RanRead token (state_of self.old) (state_of self.new) result }
+        ensures seen { result ≡ Ok (code_of self.old.kept token) }
+        ensures same { self.new ≡ self.old }
+    {
+        Ok(kept_code(&self.kept, token))
+    }
+
+    fn command(&mut self, side: Side, token: u64, name: Name) -> Result<u8, PortFail>
+        ensures only { NeverWrong result }
+        ensures cause { PortCause side (state_of self.old) (state_of self.new) result }
+        ensures step { CommandStep side token name (state_of self.old) (state_of self.new) result }
+        ensures counted { Counted self.old self.new }
+        ensures exact { CommandEnds (is_to_fail self.old) side token self.old self.new result }
+    {
+        self.calls = self.calls.saturating_add(1);
+        if fails_now(&self.fails, self.calls, side, &mut self.faults) {
+            return Err(PortFail::Failed);
+        }
+        if let Some(code) = kept_code(&self.kept, token) {
+            return Err(PortFail::Ran(code));
+        }
+        let one = Kept {
+            token,
+            code: 0,
+            name,
+            side: Some(side),
+        };
+        if self.kept.push(one).is_err() {
+            self.faults.raise(side);
+            return Err(PortFail::Failed);
+        }
+        Ok(0)
+    }
+}
+
+#[cfg(test)]
+mod tests {
+    use super::*;
+    use std::process::Abort;
+    use std::test::Fail;
+
+    fn name(rt: &impl Abort, text: &str) -> Name {
+        Name::read(text.as_bytes()).expect(rt, "a name")
+    }
+
+    fn lab(rt: &impl Abort) -> Placement {
+        Placement {
+            network: name(rt, "lab"),
+            folder: Path::read(b"lab/test").expect(rt, "a path"),
+            pool: name(rt, "p1"),
+        }
+    }
+
+    fn placed(rt: &impl Abort) -> Placed {
+        Placed {
+            place: lab(rt),
+            bubble: true,
+        }
+    }
+
+    // The four posts by number.
+    fn post_of(number: usize, placed: &Placed) -> Post {
+        match number {
+            0 => Post::Placeholder,
+            1 => Post::Off(*placed),
+            2 => Post::On(*placed),
+            _ => Post::Ready(*placed),
+        }
+    }
+
+    #[test]
+    fn each_call_takes_the_posts_that_it_needs(rt: HostRuntime) {
+        let placed = &placed(&rt);
+        for (call, after) in [
+            (PortCall::Register(*placed), [Some(1), None, None, None]),
+            (PortCall::Start, [None, Some(3), Some(3), None]),
+            (PortCall::Stop, [None, None, Some(1), Some(1)]),
+            (PortCall::Unregister, [None, Some(0), None, None]),
+        ] {
+            for before in 0..4 {
+                let mut port = PlainPort::opening(Vec::new(rt.alloc()));
+                port.post = port.post.put(Side::B, post_of(before, placed));
+                let answer = port.run(&call, Side::B);
+                let left = post_of(after[before].unwrap_or(before), placed);
+                assert_eq!(rt;
+                    answer.is_ok(),
+                    after[before].is_some(),
+                    "{call:?} at {before}"
+                );
+                assert_eq!(rt; port.post(Side::B), Ok(left), "{call:?} at {before}");
+            }
+        }
+    }
+
+    #[test]
+    fn a_machine_is_registered_started_and_taken_away(rt: HostRuntime) {
+        let mut port = PlainPort::opening(Vec::new(rt.alloc()));
+        let placed = &placed(&rt);
+        assert_eq!(rt;
+            port.start(Side::B),
+            Err(PortFail::Wrong(Post::Placeholder))
+        );
+        assert_eq!(rt; port.register(Side::B, lab(&rt), true), Ok(()));
+        assert_eq!(rt;
+            port.stop(Side::B),
+            Err(PortFail::Wrong(Post::Off(*placed)))
+        );
+        assert_eq!(rt; port.start(Side::B), Ok(()));
+        assert_eq!(rt; port.post(Side::B), Ok(Post::Ready(*placed)));
+        assert_eq!(rt; port.stop(Side::B), Ok(()));
+        assert_eq!(rt; port.unregister(Side::B), Ok(()));
+        assert_eq!(rt; port.post(Side::B), Ok(Post::Placeholder));
+    }
+
+    #[test]
+    fn a_listed_start_fails_and_leaves_the_machine_off(rt: HostRuntime) -> Result<(), Fail> {
+        let mut port = PlainPort::opening(Vec::from_array(rt.alloc(), [2])?);
+        assert_eq!(rt; port.register(Side::B, lab(&rt), true), Ok(()));
+        assert_eq!(rt; port.post(Side::B), Ok(Post::Off(placed(&rt))));
+        assert_eq!(rt; port.start(Side::B), Err(PortFail::Failed));
+        assert_eq!(rt; port.post(Side::B), Ok(Post::Off(placed(&rt))));
+        assert_eq!(rt; port.start(Side::B), Ok(()));
+        Ok(())
+    }
+
+    #[test]
+    fn a_command_runs_once(rt: HostRuntime) {
+        let mut port = PlainPort::opening(Vec::new(rt.alloc()));
+        assert_eq!(rt; port.ran(Side::B, 5), Ok(None));
+        assert_eq!(rt; port.command(Side::B, 5, name(&rt, "go")), Ok(0));
+        assert_eq!(rt;
+            port.command(Side::B, 5, name(&rt, "go")),
+            Err(PortFail::Ran(0))
+        );
+        assert_eq!(rt; port.ran(Side::B, 5), Ok(Some(0)));
+        assert_eq!(rt; port.command(Side::B, 6, name(&rt, "go")), Ok(0));
+    }
+}
