@@ -5,9 +5,8 @@ use Rattle.std.proofs.lemmas.List.{get_or_past, length-map}
 use Rattle.std.specs.Prelude.{Option, Some, None, map}
 use Rattle.dr_base.specs.declared.side.Side.TheVariants.{A}
 use Rattle.dr_base.specs.declared.answer.Answer.{Answer}
-use Rattle.dr_base.specs.declared.answer.Answer.TheVariants.{Done, BadWords, BadEstate, ReadFault, NoMemory, Refused}
+use Rattle.dr_base.specs.declared.answer.Answer.TheVariants.{BadWords, BadEstate, ReadFault, NoMemory, Refused}
 use Rattle.dr_outside.specs.declared.machine.Post.TheVariants.{Placeholder}
-use Rattle.dr_outside.specs.declared.pair.Pair.{Pair}
 use Rattle.dr_outside.specs.Arrays.{ArrayState}
 use Rattle.dr_outside.specs.Machines.{PortState, machine_at, no_machine}
 use Rattle.dr_outside.proofs.Drifts.{Drift-refl}
@@ -47,11 +46,12 @@ module _ {R P : Type 0} (array_state : R → ArrayState) (port_state : P → Por
 
   -- an answer that comes before anything is called
   pub leaves_all : (array_tells port_tells : Type 0) (input : List ℕ) (answer : Answer)
-      → ((estate : Estate) → PairsDone estate (array_state array).pair (array_state array).pair answer)
+      → ((estate : Estate) → PairsDone estate (array_state array) (array_state array) answer)
       → ((estate : Estate) → MachinesDone estate (machine_at port_state ports) (machine_at port_state ports) answer)
       → Leaves array_tells port_tells input (site array_state port_state array ports) (site array_state port_state array ports) answer
   leaves_all array_tells port_tells input answer pairs machines = record {
     nothing = calls_nothing (site array_state port_state array ports) answer;
+    no_pairs = λ estate is none. refl;
     protected = record { pairs = λ t o i. beside _ _ (Drift-refl _); machines = λ t i. record { protected = refl; kept = refl } };
     others = λ estate is. record { pairs = λ t o i past. Drift-refl _; machines = λ t i past. refl };
     order = λ estate is t opening. in_order_at_rest estate opening;
@@ -62,14 +62,16 @@ module _ {R P : Type 0} (array_state : R → ArrayState) (port_state : P → Por
 -- what the test of an estate leaves is what its input's answer leaves
 module _ (array_tells port_tells : Type 0) (input : List ℕ) (estate : Estate) (is_estate : IsEstate input estate) (old new : Site) (answer : Answer) where
   pub leaves_of_test : CallsNothing old new answer
-      → (array_tells → AreOpeningPairs A old.array → PairsDone estate old.array.pair new.array.pair answer)
+      → (length estate.pairs ≡ 0 → new.array ≡ old.array)
+      → (array_tells → AreOpeningPairs A old.array → PairsDone estate old.array new.array answer)
       → (array_tells → AreOpeningPairs A old.array → KeepsPairs estate old.array.pair new.array.pair)
       → (port_tells → AreOpeningMachines A old.slots old.machine → MachinesDone estate old.machine new.machine answer)
       → (port_tells → KeepsMachines estate old.machine new.machine)
       → (port_tells → AreOpeningMachines A old.slots old.machine → AreInOrder estate new.machine)
       → Leaves array_tells port_tells input old new answer
-  leaves_of_test nothing pairs_done pairs_kept machines_done machines_kept order = record {
+  leaves_of_test nothing no_pairs pairs_done pairs_kept machines_done machines_kept order = record {
     nothing = nothing;
+    no_pairs = λ other is. rw (same_estate input other estate is is_estate) no_pairs;
     protected = record { pairs = λ t o. (pairs_kept t o).all; machines = λ t. (machines_kept t).all };
     others = λ other is. rw (same_estate input other estate is is_estate) (record { pairs = λ t o. (pairs_kept t o).others; machines = λ t. (machines_kept t).others });
     order = λ other is. rw (same_estate input other estate is is_estate) order;
@@ -82,7 +84,7 @@ pub fault_cause : (array_tells port_tells : Type 0) (input : List ℕ) (old new 
 fault_cause array_tells port_tells input old new (BadLine line) cause = cause
 fault_cause array_tells port_tells input old new LinesNoMemory cause = tt
 
-pub fault_ends_before_pairs : (estate : Estate) (old new : ℕ → Pair) (fault : LineFault) → PairsDone estate old new (fault_answer fault)
+pub fault_ends_before_pairs : (estate : Estate) (old new : ArrayState) (fault : LineFault) → PairsDone estate old new (fault_answer fault)
 fault_ends_before_pairs estate old new (BadLine line) = tt
 fault_ends_before_pairs estate old new LinesNoMemory = tt
 

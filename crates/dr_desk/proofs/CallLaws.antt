@@ -12,7 +12,7 @@ use Rattle.dr_desk.specs.declared.lines.Estate.{Estate}
 use Rattle.dr_desk.specs.Calls.{Answers, Received, Sent, AreWords, Cause, Gives, GivesPlain, IsSilent, LacksMemory, Refuses, NoneRose, IsTested, KeepsOthers, is_refusal}
 use Rattle.dr_desk.specs.Lines.{IsEstate, IsFirstBadLine}
 use Rattle.dr_desk.specs.Streams.{looked_at}
-use Rattle.dr_desk.specs.Tests.{Site, AreInOrder, AreTestedPairs, CallsNothing, MachinesDone, PairsDone, HasOpeningPairs, HasOpeningMachines, HasSlots}
+use Rattle.dr_desk.specs.Tests.{Site, AreInOrder, AreTestedByGroup, AreTestedPairs, CallsNothing, MachinesDone, PairsDone, HasOpeningPairs, HasOpeningMachines, HasSlots}
 use Rattle.dr_desk.specs.Texts.{answer_text}
 use Rattle.dr_desk.specs.Words.{IsFirstBadWord}
 use Rattle.dr_desk.proofs.LinesLaws.{no_estate_with_bad_line, same_estate, same_bad_line}
@@ -118,7 +118,7 @@ module _ (source_tells sink_tells array_tells port_tells : Type 0) (words : List
     complete at pt are slots pairs machines none = go_complete are a.is.input estate is_read at pt slots pairs machines none a.answer a.is.estate a.text a.is.cause a.is.is_text a.gives
 
     -- a test that is done: no other answer has the status 0
-    done_by : (answer : Answer) → (e : Option Estate) → Cause array_tells port_tells words source a.is.input e old new answer → (array_tells → HasOpeningPairs old → PairsDone estate old.array.pair new.array.pair answer) → (port_tells → HasOpeningMachines old → MachinesDone estate old.machine new.machine answer) → status_of answer ≡ 0 → IsTested array_tells port_tells estate old new
+    done_by : (answer : Answer) → (e : Option Estate) → Cause array_tells port_tells words source a.is.input e old new answer → (array_tells → HasOpeningPairs old → PairsDone estate old.array new.array answer) → (port_tells → HasOpeningMachines old → MachinesDone estate old.machine new.machine answer) → status_of answer ≡ 0 → IsTested array_tells port_tells estate old new
     done_by (Done run) e cause pairs machines zero = record { pairs = pairs; machines = machines }
     done_by (BadWords p) e cause pairs machines zero = cc zero
     done_by ReadFault e cause pairs machines zero = cc zero
@@ -138,7 +138,7 @@ module _ (source_tells sink_tells array_tells port_tells : Type 0) (words : List
     ]
 
     -- a machine that failed: no other answer has the status 6
-    snapshots_by : (answer : Answer) → (e : Option Estate) → Cause array_tells port_tells words source a.is.input e old new answer → PairsDone estate old.array.pair new.array.pair answer → status_of answer ≡ 6 → AreTestedPairs estate old.array.pair new.array.pair
+    snapshots_by : (answer : Answer) → (e : Option Estate) → Cause array_tells port_tells words source a.is.input e old new answer → PairsDone estate old.array new.array answer → status_of answer ≡ 6 → AreTestedPairs estate old.array.pair new.array.pair
     snapshots_by (PortFault m) e cause pairs six = pairs
     snapshots_by (Done run) e cause pairs six = cc six
     snapshots_by (BadWords p) e cause pairs six = cc six
@@ -156,6 +156,29 @@ module _ (source_tells sink_tells array_tells port_tells : Type 0) (words : List
       | inl told ↦ snapshots_by a.answer a.is.estate a.is.cause (a.is.leaves.pairs estate is_read t opening) (sym told.status_is ∙ six)
       | inr cut ↦ absurd (omega (arith, cut.status_is, six))
     ]
+
+    -- an array that failed: no other answer has the status 5
+    groups_by : (answer : Answer) → (e : Option Estate) → Cause array_tells port_tells words source a.is.input e old new answer → PairsDone estate old.array new.array answer → status_of answer ≡ 5 → AreTestedByGroup estate old.array.group old.array.pair new.array.pair
+    groups_by (ArrayFault side) e cause pairs five = pairs
+    groups_by (Done run) e cause pairs five = cc five
+    groups_by (BadWords p) e cause pairs five = cc five
+    groups_by ReadFault e cause pairs five = cc five
+    groups_by (BadEstate l) e cause pairs five = cc five
+    groups_by NoMemory e cause pairs five = cc five
+    groups_by (Refused r) e cause pairs five = cc five
+    groups_by (PortFault m) e cause pairs five = cc five
+    groups_by (Foreign k wanted found) e cause pairs five = cc five
+    groups_by answer None cause pairs five = absurd cause.1
+    groups_by answer (Some e) cause pairs five = absurd cause.1.1.1
+
+    pub whole_groups : array_tells → HasOpeningPairs old → status ≡ 5 → AreTestedByGroup estate old.array.group old.array.pair new.array.pair
+    whole_groups t opening five = elim a.gives [
+      | inl told ↦ groups_by a.answer a.is.estate a.is.cause (a.is.leaves.pairs estate is_read t opening) (sym told.status_is ∙ five)
+      | inr cut ↦ absurd (omega (arith, cut.status_is, five))
+    ]
+
+    pub no_pairs : length estate.pairs ≡ 0 → new.array ≡ old.array
+    no_pairs = a.is.leaves.no_pairs estate is_read
 
     pub in_order : port_tells → HasOpeningMachines old → AreInOrder estate new.machine
     in_order = a.is.leaves.order estate is_read

@@ -18,7 +18,7 @@ use Rattle.dr_outside.specs.Arrays.{ArrayState, ArrayStep, EachStep, is_listed}
 use Rattle.dr_outside.proofs.Drifts.{Drift-trans}
 use Rattle.dr_model.specs.Opening.{IsOpeningPair, AreOpeningPairs}
 use Rattle.dr_model.specs.Testing.{DriftsButSnapshot, IsTestedPair}
-use Rattle.dr_desk.specs.Storage.{StorageStep, PairDone, PairLeft}
+use Rattle.dr_desk.specs.Storage.{StorageStep, PairDone}
 
 is_from_a : (p : Pair) → IsOpeningPair A p → p.source ≡ A
 is_from_a p o = ap (λ (f : Frame). f.source) o.frame
@@ -133,14 +133,6 @@ tested run p q r o s t =
       at_most = rw (is_from_a p o) (omega (arith, before.opening.behind, went.source, content_writes));
     }
 
-left_by_start : (run : ℕ) (b : Bool) (p q r : Pair) → IsOpeningPair A p → Synced p q → PairStep (TestStart run) b q r → DriftsButSnapshot p r
-left_by_start run true p q r o s t = (tested run p q r o s t).rest
-left_by_start run false p q r o s d = beside p r (Drift-trans p q r s.drift d)
-
-left_by_sync : (b : Bool) (p q : Pair) → IsOpeningPair A p → PairStep Sync b p q → DriftsButSnapshot p q
-left_by_sync true p q o s = beside p q (synced p q o s).drift
-left_by_sync false p q o d = beside p q d
-
 fit_to_start : (run : ℕ) (q : Pair) → IsOpeningPair A q → is_fit (TestStart run) q ≡ true
 fit_to_start run q o = go q.snapshot q.link (ap (λ (f : Frame). f.snapshot) o.frame) (ap (λ (f : Frame). f.link) o.frame)
   where
@@ -149,20 +141,21 @@ fit_to_start run q o = go q.snapshot q.link (ap (λ (f : Frame). f.snapshot) o.f
     go (Some s) link e l = cc e
 
 module _ (run : ℕ) (list : List ℕ) (old : ArrayState) (opening : AreOpeningPairs A old) (below : (i : ℕ) → is_listed list i ≡ true → i < old.count) where
-  -- one pair after a failed replication
-  pair_after_sync : (i : ℕ) (listed done : Bool) → is_listed list i ≡ listed → (new : Pair) → PairStep Sync (listed && done) (old.pair i) new → PairLeft listed (old.pair i) new
-  pair_after_sync i true done l new s = left_by_sync done (old.pair i) new (opening i (below i l)) s
+  -- one pair after a failed replication: it drifted alone
+  pair_after_sync : (i : ℕ) (listed done : Bool) → is_listed list i ≡ listed → (new : Pair) → PairStep Sync (listed && done) (old.pair i) new → PairDone run (listed && false) (old.pair i) new
+  pair_after_sync i true true l new s = (synced (old.pair i) new (opening i (below i l)) s).drift
+  pair_after_sync i true false l new s = s
   pair_after_sync i false done l new s = s
 
   -- replication failed
-  pub after_sync : (new : ArrayState) (fail : ArrayFail) → ArrayStep Sync list old new (Err fail) → StorageStep run list old.pair new.pair (Err fail)
-  after_sync new (Failed side) s = λ i. pair_after_sync i (is_listed list i) (s.done (old.group i)) refl (new.pair i) (s.each i)
+  pub after_sync : (new : ArrayState) (fail : ArrayFail) → ArrayStep Sync list old new (Err fail) → StorageStep run list old new (Err fail)
+  after_sync new (Failed side) s = record { done = λ group. false; each = λ i. pair_after_sync i (is_listed list i) (s.done (old.group i)) refl (new.pair i) (s.each i) }
   after_sync new (Wrong k half) s =
       let o : IsOpeningPair A (old.pair k) = opening k (below k s.first.listed) in
       let live : is_fit Sync (old.pair k) ≡ true = ap (λ (f : Frame). is_live f.link) o.frame in
       cc (live, s.first.unfit)
 
-  module _ (mid : ArrayState) (sync : EachStep Sync (is_listed list) old.pair mid.pair) where
+  module _ (mid : ArrayState) (same : mid.group ≡ old.group) (sync : EachStep Sync (is_listed list) old.pair mid.pair) where
     each_synced : (i : ℕ) → is_listed list i ≡ true → Synced (old.pair i) (mid.pair i)
     each_synced i l =
         let step : Made Sync (old.pair i) (mid.pair i) = rw l at (sync i) in
@@ -176,16 +169,20 @@ module _ (run : ℕ) (list : List ℕ) (old : ArrayState) (opening : AreOpeningP
         Drift-trans (old.pair i) (mid.pair i) new drift s
 
     -- one pair after a failed call for the snapshots
-    pair_left : (i : ℕ) (listed done : Bool) → is_listed list i ≡ listed → (new : Pair) → PairStep (TestStart run) (listed && done) (mid.pair i) new → PairLeft listed (old.pair i) new
-    pair_left i true done l new s = left_by_start run done (old.pair i) (mid.pair i) new (opening i (below i l)) (each_synced i l) s
+    pair_left : (i : ℕ) (listed done : Bool) → is_listed list i ≡ listed → (new : Pair) → PairStep (TestStart run) (listed && done) (mid.pair i) new → PairDone run (listed && done) (old.pair i) new
+    pair_left i true true l new s = tested run (old.pair i) (mid.pair i) new (opening i (below i l)) (each_synced i l) s
+    pair_left i true false l new s = Drift-trans (old.pair i) (mid.pair i) new (each_synced i l).drift s
     pair_left i false done l new s =
         let drift : Drift (old.pair i) (mid.pair i) = rw l at (sync i) in
         Drift-trans (old.pair i) (mid.pair i) new drift s
 
     -- replication was done, and snapshots were taken or not
-    pub after_start : (new : ArrayState) (result : Result (Unit {0}) ArrayFail) → ArrayStep (TestStart run) list mid new result → StorageStep run list old.pair new.pair result
+    pub after_start : (new : ArrayState) (result : Result (Unit {0}) ArrayFail) → ArrayStep (TestStart run) list mid new result → StorageStep run list old new result
     after_start new (Ok done) s = λ i. pair_done i (is_listed list i) refl (new.pair i) (s i)
-    after_start new (Err (Failed side)) s = λ i. pair_left i (is_listed list i) (s.done (mid.group i)) refl (new.pair i) (s.each i)
+    after_start new (Err (Failed side)) s = record {
+      done = s.done;
+      each = λ i. subst (λ (group : ℕ → ℕ). PairDone run (is_listed list i && s.done (group i)) (old.pair i) (new.pair i)) same (pair_left i (is_listed list i) (s.done (mid.group i)) refl (new.pair i) (s.each i));
+    }
     after_start new (Err (Wrong k half)) s =
         let fit : is_fit (TestStart run) (mid.pair k) ≡ true = fit_to_start run (mid.pair k) (each_synced k s.first.listed).opening in
         cc (fit, s.first.unfit)

@@ -1,14 +1,14 @@
 -- From what the array's and the machines' calls leave to what a test leaves, from the opening state.
-use Rattle.std.proofs.Common.{◌≡◌, ℕ, ◌≤◌, ◌<◌, inl, inr, Bool, true, false, List, [], length, ap, arith}
+use Rattle.std.proofs.Common.{◌≡◌, ℕ, ◌≤◌, ◌<◌, inl, inr, Bool, true, false, ◌&&◌, List, [], length, ap, arith}
 use Rattle.std.proofs.lemmas.Bool.{cases_order}
 use Rattle.std.proofs.lemmas.List.{length-map}
 use Rattle.std.specs.Prelude.{slice_index_or}
 use Rattle.dr_base.specs.declared.side.Side.TheVariants.{A, B}
 use Rattle.dr_base.specs.declared.answer.Answer.{Answer}
-use Rattle.dr_base.specs.declared.answer.Answer.TheVariants.{Done, Foreign, PortFault}
+use Rattle.dr_base.specs.declared.answer.Answer.TheVariants.{ArrayFault, Done, Foreign, PortFault}
 use Rattle.dr_base.specs.declared.answer.Thing.TheVariants.{Machine as MachineThing}
 use Rattle.dr_outside.specs.declared.pair.Pair.{Pair}
-use Rattle.dr_outside.specs.Arrays.{is_listed}
+use Rattle.dr_outside.specs.Arrays.{ArrayState, is_listed}
 use Rattle.dr_outside.specs.declared.machine.Post.TheVariants.{Placeholder}
 use Rattle.dr_outside.specs.Machines.{PortState}
 use Rattle.dr_model.specs.Opening.{AreOpeningMachines}
@@ -20,9 +20,9 @@ use Rattle.dr_desk.specs.declared.start_up.StartEnd.{StartEnd}
 use Rattle.dr_desk.specs.declared.start_up.StartEnd.TheVariants.{Done as AllDone, Failed, Refused}
 use Rattle.dr_desk.specs.Lines.{IsSound}
 use Rattle.dr_desk.specs.Starts.{ChangesAtB, StandsAsWanted, FailedAt, TriedAt, AllCause, AllStep, AllPlaceholders, ArePriorities, priority_of, priorities_of}
-use Rattle.dr_desk.specs.Tests.{lab, in_lab, AreInOrder, AreTestedMachines, AreTestedPairs, KeepsPairs, PairsDone}
+use Rattle.dr_desk.specs.Tests.{lab, in_lab, AreInOrder, AreTestedMachines, AreTestedPairs, AreTestedByGroup, KeepsPairs, PairsDone}
 use Rattle.dr_desk.specs.PairLists.{CountsUp}
-use Rattle.dr_desk.specs.Storage.{PairDone, PairLeft}
+use Rattle.dr_desk.specs.Storage.{PairDone, SomeSnapshots}
 use Rattle.dr_desk.proofs.PairListLaws.{is_listed-below, is_listed-past}
 use Rattle.dr_desk.proofs.StartLaws.{priority_at}
 use Rattle.dr_desk.proofs.StorageLaws.{beside}
@@ -99,26 +99,22 @@ module _ (estate : Estate) (list : List ℕ) (listed : CountsUp (length estate.p
   done_keeps true p q done = done.rest
   done_keeps false p q drift = beside p q drift
 
-  left_keeps : (b : Bool) (p q : Pair) → PairLeft b p q → DriftsButSnapshot p q
-  left_keeps true p q left = left
-  left_keeps false p q drift = beside p q drift
-
   pub kept_by_done : ((i : ℕ) → PairDone 1 (is_listed list i) (old i) (new i)) → KeepsPairs estate old new
   kept_by_done done = record { all = λ i. done_keeps (is_listed list i) (old i) (new i) (done i); others = (pairs_tested done).others }
 
   -- a call failed
-  pub kept_by_left : ((i : ℕ) → PairLeft (is_listed list i) (old i) (new i)) → KeepsPairs estate old new
-  kept_by_left left = record {
-    all = λ i. left_keeps (is_listed list i) (old i) (new i) (left i);
-    others = λ i past. rw (is_listed-past (length estate.pairs) list listed i past) at (left i);
+  pub kept_by_some : (group : ℕ → ℕ) → SomeSnapshots 1 list group old new → KeepsPairs estate old new
+  kept_by_some group some = record {
+    all = λ i. done_keeps (is_listed list i && some.done (group i)) (old i) (new i) (some.each i);
+    others = λ i past. rw (is_listed-past (length estate.pairs) list listed i past) at (some.each i);
   }
 
-  -- whatever the machines answer, the pairs are done
-  pub pairs_done : (answer : Answer) → AreTestedPairs estate old new → PairsDone estate old new answer
-  pairs_done (Done run) tested = tested
-  pairs_done (PortFault machine) tested = tested
-  pairs_done (Foreign (MachineThing machine) wanted found) tested = tested
-  pairs_done _ tested = tt
+  pub tested_by_group : (group : ℕ → ℕ) → SomeSnapshots 1 list group old new → AreTestedByGroup estate group old new
+  tested_by_group group some = record {
+    done = some.done;
+    tested = λ i l d. rw (is_listed-below (length estate.pairs) list listed i l, d) at (some.each i);
+    left = λ i l d. rw (is_listed-below (length estate.pairs) list listed i l, d) at (some.each i);
+  }
 
   -- a listed pair is one of the estate
   pub listed_pair : (k : ℕ) → is_listed list k ≡ true → k < length estate.pairs
@@ -126,3 +122,11 @@ module _ (estate : Estate) (list : List ℕ) (listed : CountsUp (length estate.p
     | inl e ↦ absurd (let isnt : is_listed list k ≡ false = is_listed-past (length estate.pairs) list listed k (omega (arith, e)) in cc (h, isnt))
     | inr o ↦ elim o [ inl lt ↦ lt | inr gt ↦ absurd (let isnt : is_listed list k ≡ false = is_listed-past (length estate.pairs) list listed k (omega (arith, gt)) in cc (h, isnt)) ]
   ]
+
+-- whatever the machines answer, the pairs are done
+pub pairs_done : (estate : Estate) (old new : ArrayState) (answer : Answer) → AreTestedPairs estate old.pair new.pair → PairsDone estate old new answer
+pairs_done estate old new (Done run) tested = tested
+pairs_done estate old new (PortFault machine) tested = tested
+pairs_done estate old new (Foreign (MachineThing machine) wanted found) tested = tested
+pairs_done estate old new (ArrayFault side) tested = record { done = λ group. true; tested = λ i l d. tested.tested i l; left = λ i l d. cc d }
+pairs_done estate old new _ tested = tt

@@ -4,7 +4,7 @@ use Rattle.dr_base.specs.declared.side.Side.{Side}
 use Rattle.dr_base.specs.Answers.{status_of}
 use Rattle.dr_base.specs.Causes.{Rose}
 use Rattle.dr_base.specs.declared.answer.Answer.{Answer}
-use Rattle.dr_base.specs.declared.answer.Answer.TheVariants.{Done, BadWords, BadEstate, ReadFault, NoMemory}
+use Rattle.dr_base.specs.declared.answer.Answer.TheVariants.{BadWords, BadEstate, ReadFault, NoMemory}
 use Rattle.dr_base.specs.declared.command.RunWords.{RunWords}
 use Rattle.dr_outside.specs.Pairs.{Drift}
 use Rattle.dr_model.specs.Testing.{DriftsButSnapshot}
@@ -83,10 +83,11 @@ pub record KeepsOthers (array_tells port_tells : Type 0) (estate : Estate) (old 
 -- what an answer leaves of the site
 pub record Leaves (array_tells port_tells : Type 0) (input : List ℕ) (old new : Site) (answer : Answer) : Type 0 where
   pub nothing : CallsNothing old new answer
+  pub no_pairs : (estate : Estate) → IsEstate input estate → length estate.pairs ≡ 0 → new.array ≡ old.array
   pub protected : KeepsProtected array_tells port_tells old new
   pub others : (estate : Estate) → IsEstate input estate → KeepsOthers array_tells port_tells estate old new
   pub order : (estate : Estate) → IsEstate input estate → port_tells → HasOpeningMachines old → AreInOrder estate new.machine
-  pub pairs : (estate : Estate) → IsEstate input estate → array_tells → HasOpeningPairs old → PairsDone estate old.array.pair new.array.pair answer
+  pub pairs : (estate : Estate) → IsEstate input estate → array_tells → HasOpeningPairs old → PairsDone estate old.array new.array answer
   pub machines : (estate : Estate) → IsEstate input estate → port_tells → HasOpeningMachines old → MachinesDone estate old.machine new.machine answer
 
 -- an answer and its text: the input that was read, the estate that it is, why the answer came, and what it leaves
@@ -141,16 +142,18 @@ pub record Answers (source_tells sink_tells array_tells port_tells : Type 0) (wo
   pub gives : Gives sink_tells sink status answer text
   pub marked : marks ≡ 0 ∷ []
 
--- there was no room for an answer: nothing is written, marked or changed
-pub record HasNoRoom (sink_tells : Type 0) (old new : Site) (sink : Sent) (status : ℕ) (marks : List ℕ) : Type 0 where
+-- there was no room for an answer: nothing is read, written, marked or changed
+pub record HasNoRoom (sink_tells : Type 0) (source : Received) (old new : Site) (sink : Sent) (status : ℕ) (marks : List ℕ) : Type 0 where
   pub silent : IsSilent sink_tells sink status
   pub unmarked : marks ≡ []
+  pub unread : source.after ≡ source.before
+  pub unasked : source.faults_after ≡ source.faults_before
   pub same : new ≡ old
 
 -- a call answers, or has no room for an answer
 abbrev pub Answered : (source_tells sink_tells array_tells port_tells : Type 0) → List (List ℕ) → Received → Site → Site → Sent → ℕ → List ℕ → Type 0
 Answered source_tells sink_tells array_tells port_tells words source old new sink status marks =
-    Answers source_tells sink_tells array_tells port_tells words source old new sink status marks ⊎ HasNoRoom sink_tells old new sink status marks
+    Answers source_tells sink_tells array_tells port_tells words source old new sink status marks ⊎ HasNoRoom sink_tells source old new sink status marks
 
 -- the statuses at which nothing is called: bad words, refusals, a failed read, want of memory
 abbrev pub is_refusal : ℕ → Bool

@@ -1,5 +1,5 @@
 -- What one test of an estate leaves of the site, and when each of its answers comes.
-use Rattle.std.specs.Prelude.{ℕ, ◌≡◌, ◌+◌, ◌<◌, ◌≤◌, List, length, is_none, codes}
+use Rattle.std.specs.Prelude.{ℕ, ◌≡◌, ◌+◌, ◌<◌, ◌≤◌, Bool, true, false, List, length, is_none, codes}
 use Rattle.dr_base.specs.declared.side.Side.{Side}
 use Rattle.dr_base.specs.declared.side.Side.TheVariants.{A, B}
 use Rattle.dr_base.specs.Sides.{other, same_side}
@@ -54,6 +54,12 @@ HasOpeningMachines site = AreOpeningMachines A site.slots site.machine
 pub record AreTestedPairs (estate : Estate) (old new : ℕ → Pair) : Type 0 where
   pub tested : (i : ℕ) → i < length estate.pairs → IsTestedPair 1 (old i) (new i)
   pub others : (i : ℕ) → length estate.pairs ≤ i → Drift (old i) (new i)
+
+-- after a failed call of the array: each consistency group of the estate's pairs has the snapshots of run 1, or drifted alone
+pub record AreTestedByGroup (estate : Estate) (group : ℕ → ℕ) (old new : ℕ → Pair) : Type 0 where
+  pub done : ℕ → Bool
+  pub tested : (i : ℕ) → i < length estate.pairs → done (group i) ≡ true → IsTestedPair 1 (old i) (new i)
+  pub left : (i : ℕ) → i < length estate.pairs → done (group i) ≡ false → Drift (old i) (new i)
 
 -- after a finished test: the estate's machines are ready at B in the lab, and all others are as they were
 pub record AreTestedMachines (estate : Estate) (old new : ℕ → PortState) : Type 0 where
@@ -139,10 +145,11 @@ TestCause array_tells port_tells estate old new NoMemory = Unit {0}
 TestCause array_tells port_tells estate old new answer = HasSlots estate old × RunCause array_tells port_tells estate old new answer
 
 -- what a test leaves of the pairs once it came to the machines: their snapshots are taken before one is touched
-abbrev pub PairsDone : Estate → (ℕ → Pair) → (ℕ → Pair) → Answer → Type 0
-PairsDone estate old new (Done run) = AreTestedPairs estate old new
-PairsDone estate old new (PortFault machine) = AreTestedPairs estate old new
-PairsDone estate old new (Foreign (MachineThing machine) wanted found) = AreTestedPairs estate old new
+abbrev pub PairsDone : Estate → ArrayState → ArrayState → Answer → Type 0
+PairsDone estate old new (Done run) = AreTestedPairs estate old.pair new.pair
+PairsDone estate old new (PortFault machine) = AreTestedPairs estate old.pair new.pair
+PairsDone estate old new (Foreign (MachineThing machine) wanted found) = AreTestedPairs estate old.pair new.pair
+PairsDone estate old new (ArrayFault side) = AreTestedByGroup estate old.group old.pair new.pair
 PairsDone estate old new _ = Unit {0}
 
 -- what a finished test leaves of the machines

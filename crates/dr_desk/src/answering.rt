@@ -1,9 +1,10 @@
-ghost use Rattle.std.specs.Prelude.{◌≡◌, ◌+◌, ◌≤◌, [], ◌++◌, length, map, string_bytes, vec_len, vec_capacity};
+ghost use Rattle.std.specs.Prelude.{◌≡◌, ◌+◌, ◌≤◌, ℕ, [], ◌++◌, length, map, string_bytes, vec_len, vec_capacity};
 ghost use Rattle.std.specs.Option.{option_copied};
 ghost use Rattle.dr_desk.specs.Calls.{received, fault_answer, IsAnswer, IsInputAnswer};
 ghost use Rattle.dr_desk.specs.Streams.{ReadsNoFurther};
 ghost use Rattle.dr_desk.specs.Tests.{site};
 ghost use Rattle.dr_desk.specs.Texts.{answer_text, IsNamed};
+ghost use Rattle.dr_desk.specs.Words.{IsFirstBadWord};
 
 use crate::input::{ReadFail, read_input};
 use crate::lines::read_lines;
@@ -79,6 +80,8 @@ pub(crate) fn answer_words<A: Array, P: Port, S: Source>(
         (received S.left S.faults source.old source.new) (site A.state P.state array.old ports.old)
         (site A.state P.state array.new ports.new) result text.new.items }
     ensures reads { S.tells → ReadsNoFurther (S.left source.old) (S.left source.new) }
+    ensures unread { (place : ℕ) → IsFirstBadWord (map string_bytes words.now) place
+        → source.new ≡ source.old }
     ensures short { length text.new.items ≤ 1024 }
 {
     if let Err(place) = read_words(words) {

@@ -1,4 +1,4 @@
-ghost use Rattle.std.specs.Prelude.{◌≡◌};
+ghost use Rattle.std.specs.Prelude.{◌≡◌, length};
 ghost use Rattle.dr_base.specs.declared.side.Side.TheVariants.{A as SideA};
 ghost use Rattle.dr_outside.specs.Arrays.{IsPairList, ArrayCause, NamesListed};
 ghost use Rattle.dr_model.specs.Opening.{AreOpeningPairs};
@@ -16,7 +16,8 @@ pub(crate) fn snapshot_pairs<A: Array>(
     ensures listed { NamesListed list.now result }
     ensures cause { ArrayCause (A.state array.old) (A.state array.new) result }
     ensures step { A.tells → AreOpeningPairs SideA (A.state array.old)
-        → StorageStep run list.now (A.state array.old).pair (A.state array.new).pair result }
+        → StorageStep run list.now (A.state array.old) (A.state array.new) result }
+    ensures no_pairs { length list.now ≡ 0 → A.state array.new ≡ A.state array.old }
 {
     if list.is_empty() {
         return Ok(());

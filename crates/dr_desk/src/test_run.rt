@@ -92,7 +92,8 @@ fn run_test<A: Array, P: Port>(
     ensures cause { RunCause A.tells P.tells estate.now (site A.state P.state array.old ports.old)
         (site A.state P.state array.new ports.new) result }
     ensures pairs_done { A.tells → AreOpeningPairs SideA (A.state array.old)
-        → PairsDone estate.now (A.state array.old).pair (A.state array.new).pair result }
+        → PairsDone estate.now (A.state array.old) (A.state array.new) result }
+    ensures no_pairs { length estate.now.pairs ≡ 0 → A.state array.new ≡ A.state array.old }
     ensures pairs_kept { A.tells → AreOpeningPairs SideA (A.state array.old)
         → KeepsPairs estate.now (A.state array.old).pair (A.state array.new).pair }
     ensures machines_done { P.tells
@@ -124,7 +125,8 @@ pub(crate) fn test_estate<A: Array, P: Port>(
     ensures nothing { CallsNothing (site A.state P.state array.old ports.old)
         (site A.state P.state array.new ports.new) result }
     ensures pairs_done { A.tells → AreOpeningPairs SideA (A.state array.old)
-        → PairsDone estate.now (A.state array.old).pair (A.state array.new).pair result }
+        → PairsDone estate.now (A.state array.old) (A.state array.new) result }
+    ensures no_pairs { length estate.now.pairs ≡ 0 → A.state array.new ≡ A.state array.old }
     ensures pairs_kept { A.tells → AreOpeningPairs SideA (A.state array.old)
         → KeepsPairs estate.now (A.state array.old).pair (A.state array.new).pair }
     ensures machines_done { P.tells

@@ -9,7 +9,7 @@ ghost use Rattle.dr_desk.specs.Lines.{IsEstate, IsFirstBadLine};
 ghost use Rattle.dr_desk.specs.Calls.{received, sent, Answered, Answers, Gives, AreWords, GivesPlain, LacksMemory, IsSilent, is_refusal, IsTested, KeepsProtected, KeepsOthers, NoneRose, Refuses};
 ghost use Rattle.dr_desk.specs.Rooms.{IsRoom, HasText};
 ghost use Rattle.dr_desk.specs.Streams.{looked_at, ReadsNoFurther};
-ghost use Rattle.dr_desk.specs.Tests.{site, AreInOrder, AreTestedPairs, HasOpeningPairs, HasOpeningMachines, HasSlots};
+ghost use Rattle.dr_desk.specs.Tests.{site, AreInOrder, AreTestedByGroup, AreTestedPairs, HasOpeningPairs, HasOpeningMachines, HasSlots};
 ghost use Rattle.dr_desk.specs.Words.{IsFirstBadWord};
 
 use crate::answering::answer_words;
@@ -75,6 +75,8 @@ fn answer_in<A: Array, P: Port, S: Source, K: Sink>(
         (site A.state P.state array.new ports.new.items)
         (sent K.taken K.faults sink.old sink.new) result.status result.marks }
     ensures reads { S.tells → ReadsNoFurther (S.left source.old) (S.left source.new) }
+    ensures unread { (place : ℕ) → IsFirstBadWord (map string_bytes words.now) place
+        → source.new ≡ source.old }
 {
     let answer = answer_words(alloc, words, array, ports, source, &mut room.text);
     respond(room, &answer, sink)
@@ -145,6 +147,15 @@ pub fn desk<A: Array, P: Port, S: Source, K: Sink>(
         → (estate : Estate) → IsEstate (looked_at (S.left source.old)) estate
         → AreTestedPairs estate (A.state array.old).pair (A.state array.new).pair }
 
+    // At an array's fault each consistency group has its snapshots or none, and without pairs the
+    // array isn't called.
+    ensures whole_groups { S.tells → A.tells → HasOpeningPairs (site A.state P.state array.old ports.old.items)
+        → result.status ≡ 5
+        → (estate : Estate) → IsEstate (looked_at (S.left source.old)) estate
+        → AreTestedByGroup estate (A.state array.old).group (A.state array.old).pair (A.state array.new).pair }
+    ensures no_pairs { S.tells → (estate : Estate) → IsEstate (looked_at (S.left source.old)) estate
+        → length estate.pairs ≡ 0 → A.state array.new ≡ A.state array.old }
+
     // At bad words, a refusal, a failed read and want of memory nothing was called.
     ensures untouched { is_refusal result.status ≡ true
         → site A.state P.state array.new ports.new.items
@@ -161,6 +172,8 @@ pub fn desk<A: Array, P: Port, S: Source, K: Sink>(
         → KeepsOthers A.tells P.tells estate (site A.state P.state array.old ports.old.items)
         (site A.state P.state array.new ports.new.items) }
     ensures reads { S.tells → ReadsNoFurther (S.left source.old) (S.left source.new) }
+    ensures unread { (place : ℕ) → IsFirstBadWord (map string_bytes words.now) place
+        → source.new ≡ source.old }
 {
     let Some(room) = Room::new(alloc) else {
         return ended_silent(alloc);

@@ -14,7 +14,7 @@ returns-in-Ok-clause-answer g c =
       estate = Some c.in-Ok.estate;
       cause = test_cause g.A.Array.tells g.P.Port.tells c.args.input.now c.in-Ok.estate is old new c.test_estate-answer.result test.cause;
       is_text = rw c.requires.empty at c.tell.ensures.text;
-      leaves = leaves_of_test g.A.Array.tells g.P.Port.tells c.args.input.now c.in-Ok.estate is old new c.test_estate-answer.result test.nothing test.pairs_done test.pairs_kept test.machines_done test.machines_kept test.order;
+      leaves = leaves_of_test g.A.Array.tells g.P.Port.tells c.args.input.now c.in-Ok.estate is old new c.test_estate-answer.result test.nothing test.no_pairs test.pairs_done test.pairs_kept test.machines_done test.machines_kept test.order;
     })
 
 pub returns-in-Err-clause-answer : goal.returns-in-Err-clause-answer
@@ -25,5 +25,5 @@ returns-in-Err-clause-answer g c =
       estate = None;
       cause = fault_cause g.A.Array.tells g.P.Port.tells c.args.input.now old old c.in-Err.fault c.in-Err.ensures.meaning;
       is_text = rw (c.requires.empty, c.fault_answer.ensures) at c.tell-in-Err.ensures.text;
-      leaves = leaves_all g.A.Array.state g.P.Port.state c.args.array.now c.args.ports.now g.A.Array.tells g.P.Port.tells c.args.input.now _ (λ estate. fault_ends_before_pairs estate _ _ c.in-Err.fault) (λ estate. fault_ends_before_machines estate _ _ c.in-Err.fault);
+      leaves = leaves_all g.A.Array.state g.P.Port.state c.args.array.now c.args.ports.now g.A.Array.tells g.P.Port.tells c.args.input.now _ (λ estate. fault_ends_before_pairs estate old.array old.array c.in-Err.fault) (λ estate. fault_ends_before_machines estate _ _ c.in-Err.fault);
     })

@@ -4,6 +4,7 @@ use Rattle.dr_desk.specs.Calls.{IsInputAnswer, received}
 use Rattle.dr_desk.specs.Streams.{looked_at}
 use Rattle.dr_desk.specs.Tests.{site}
 use Rattle.dr_desk.proofs.AnswerLaws.{leaves_all, words_cause}
+use Rattle.dr_desk.proofs.WordsLaws.{no_bad_word}
 use Rattle.dr_desk.proofs.answering.answer_words.Goals as goal
 
 pub returns-in-Err-clause-answer : goal.returns-in-Err-clause-answer
@@ -54,3 +55,12 @@ returns-in-Err-NoMemory-clause-answer g c =
       is_text = rw c.requires.empty at c.tell-in-Err-NoMemory.ensures.text;
       leaves = leaves_all g.A.Array.state g.P.Port.state c.args.array.now c.args.ports.now g.A.Array.tells g.P.Port.tells _ _ (λ estate. tt) (λ estate. tt);
     })
+
+pub returns-in-Ok-clause-unread : goal.returns-in-Ok-clause-unread
+returns-in-Ok-clause-unread g c = λ place bad. absurd (no_bad_word _ c.in_default.field-0 place c.in_default.ensures bad)
+
+pub returns-in-Err-Failed-clause-unread : goal.returns-in-Err-Failed-clause-unread
+returns-in-Err-Failed-clause-unread g c = λ place bad. absurd (no_bad_word _ c.in_default.field-0 place c.in_default.ensures bad)
+
+pub returns-in-Err-NoMemory-clause-unread : goal.returns-in-Err-NoMemory-clause-unread
+returns-in-Err-NoMemory-clause-unread g c = λ place bad. absurd (no_bad_word _ c.in_default.field-0 place c.in_default.ensures bad)

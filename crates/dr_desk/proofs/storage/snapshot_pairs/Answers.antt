@@ -8,4 +8,4 @@ returns-in-Err-clause-step g c = λ tells opening.
 
 pub returns-in-Ok-clause-step : goal.returns-in-Ok-clause-step
 returns-in-Ok-clause-step g c = λ tells opening.
-    after_start c.args.run c.args.list.now (g.A.Array.state c.args.array.now) opening (listed_below c.args.list.now _ c.requires.below) (g.A.Array.state c.sync.new.self) (c.in-Ok.ensures.step tells) (g.A.Array.state c.test_start.new.self) _ (c.test_start.ensures.step tells)
+    after_start c.args.run c.args.list.now (g.A.Array.state c.args.array.now) opening (listed_below c.args.list.now _ c.requires.below) (g.A.Array.state c.sync.new.self) c.in-Ok.ensures.cause.group (c.in-Ok.ensures.step tells) (g.A.Array.state c.test_start.new.self) _ (c.test_start.ensures.step tells)

@@ -1,6 +1,6 @@
 use Rattle.std.proofs.Common.{inr, arith, refl}
 use Rattle.dr_desk.proofs.AnswerLaws.{in_order_at_rest}
-use Rattle.dr_desk.proofs.CallLaws.{bad_words, bad_estate, no_slot_for_machines, no_slot_for_pairs, complete, done, snapshots_first, in_order}
+use Rattle.dr_desk.proofs.CallLaws.{bad_words, bad_estate, no_slot_for_machines, no_slot_for_pairs, complete, done, snapshots_first, whole_groups, no_pairs, in_order}
 use Rattle.dr_desk.proofs.top_call.desk.Goals as goal
 
 pub returns-clause-bad_words : goal.returns-clause-bad_words
@@ -38,3 +38,12 @@ returns-clause-snapshots_first g c = λ tells array_tells opening six estate is.
 
 pub returns-in_default-clause-snapshots_first : goal.returns-in_default-clause-snapshots_first
 returns-in_default-clause-snapshots_first g c = λ tells array_tells opening six estate is. absurd (omega (arith, c.ended_silent.ensures.status, six))
+
+pub returns-clause-whole_groups : goal.returns-clause-whole_groups
+returns-clause-whole_groups g c = λ tells array_tells opening five estate is. whole_groups g.S.Source.tells g.K.Sink.tells g.A.Array.tells g.P.Port.tells _ _ _ _ _ _ _ c.answer_in.ensures.answers tells estate is array_tells opening five
+
+pub returns-in_default-clause-whole_groups : goal.returns-in_default-clause-whole_groups
+returns-in_default-clause-whole_groups g c = λ tells array_tells opening five estate is. absurd (omega (arith, c.ended_silent.ensures.status, five))
+
+pub returns-clause-no_pairs : goal.returns-clause-no_pairs
+returns-clause-no_pairs g c = λ tells estate is none. no_pairs g.S.Source.tells g.K.Sink.tells g.A.Array.tells g.P.Port.tells _ _ _ _ _ _ _ c.answer_in.ensures.answers tells estate is none
