@@ -14,7 +14,7 @@ use Rattle.dr_desk.specs.declared.start_up.RefusedMachine.{RefusedMachine}
 use Rattle.dr_desk.specs.declared.start_up.StartFail.{StartFail}
 use Rattle.dr_desk.specs.declared.start_up.StartFail.TheVariants.{Failed, Refused}
 use Rattle.dr_desk.specs.declared.start_up.StartEnd.TheVariants.{Failed as EndFailed}
-use Rattle.dr_desk.specs.Starts.{NoneFalls, ChangesAtB, StartStep, StartCause, WaveStep, Tried, EachPlaceholder, IsFailedMachine, IsRefusedMachine, has_priority, is_before, failed_after, refused_after, priorities_of, priority_of, ArePriorities, AllPlaceholders, AllCause, AllStep}
+use Rattle.dr_desk.specs.Starts.{NoneFalls, ChangesAtB, StartStep, StartCause, StartTold, ToldRefusal, WaveStep, Tried, EachPlaceholder, IsFailedMachine, IsRefusedMachine, IsToldMachine, has_priority, is_before, failed_after, refused_after, priorities_of, priority_of, ArePriorities, AllPlaceholders, AllCause, AllStep}
 
 -- a later count that rose from one that didn't fall
 pub rose_later : (a b c : ℕ) → a ≤ b → Rose b c → Rose a c
@@ -28,6 +28,7 @@ rose_still a b c rose le = omega (arith, rose, le)
 pub record StartsAt (tells : Type 0) (place : Placement) (i : ℕ) (before after : ℕ → PortState) (result : Result (Unit {0}) StartFail) : Type 0 where
   pub later : NoneFalls (before i) (after i)
   pub cause : StartCause place (before i) (after i) result
+  pub told : tells → StartTold (before i).post.b result
   pub elsewhere : tells → ChangesAtB (before i) (after i)
   pub step : tells → (before i).post.b ≡ Placeholder → StartStep (in_bubble place) (after i).post.b result
   pub others : (j : ℕ) → j ≢ i → after j ≡ before j
@@ -41,6 +42,7 @@ pub record TriedUpTo (machines : List Machine) (priority : ℕ) (place : Placeme
   pub failed : IfSome first_failed (IsFailedMachine machines priority initial now)
   pub first : IfSome first_failed (λ m. m < i)
   pub refused : IfSome first_refused (IsRefusedMachine machines place)
+  pub told : tells → IfSome first_refused (IsToldMachine machines priority initial)
   pub step : tells → EachPlaceholder machines priority initial → (j : ℕ) → j < i → WaveStep (has_priority machines priority j) (is_before first_failed j) (in_bubble place) (initial j) (now j)
   pub only_failed : tells → EachPlaceholder machines priority initial → first_refused ≡ None
 
@@ -55,6 +57,7 @@ module _ (machines : List Machine) (priority : ℕ) (place : Placement) (tells :
     failed = s.failed;
     first = further failed s.first;
     refused = s.refused;
+    told = s.told;
     step = λ t p j lt. elim (cases_eq j i) [
       | inl e ↦ rw (e, isnt) (s.beyond i (omega arith))
       | inr n ↦ s.step t p j (omega arith)
@@ -132,6 +135,14 @@ module _ (machines : List Machine) (priority : ℕ) (place : Placement) (tells :
     refused_more None (Err (Refused want found)) a h = record { listed = below; codes = a.cause }
     refused_more (Some m) (Err (Refused want found)) a h = h
 
+    told_more : (r : Option RefusedMachine) (result : Result (Unit {0}) StartFail) → StartsAt tells place i before after result → tells → IfSome r (IsToldMachine machines priority initial) → IfSome (refused_after r i result) (IsToldMachine machines priority initial)
+    told_more None (Ok _) a t h = tt
+    told_more (Some m) (Ok _) a t h = h
+    told_more None (Err Failed) a t h = tt
+    told_more (Some m) (Err Failed) a t h = h
+    told_more None (Err (Refused want found)) a t h = record { priority_is = is; codes = subst (λ (m : PortState). ToldRefusal m.post.b want found) was_initial (a.told t) }
+    told_more (Some m) (Err (Refused want found)) a t h = h
+
     -- where each machine of the priority was a placeholder
     module _ (t : tells) (placeholders : EachPlaceholder machines priority initial) where
       was_placeholder : (before i).post.b ≡ Placeholder
@@ -181,6 +192,7 @@ module _ (machines : List Machine) (priority : ℕ) (place : Placement) (tells :
       failed = failed_more failed result a s.failed;
       first = first_more failed result s.first;
       refused = refused_more refused result a s.refused;
+      told = λ t. told_more refused result a t (s.told t);
       step = λ t p j lt. elim (cases_eq j i) [
         | inl e ↦ rw (e, is) (step_here t p failed result a s.first)
         | inr n ↦
@@ -209,6 +221,7 @@ pub record WaveDone (machines : List Machine) (place : Placement) (tells : Type 
   pub others : (i : ℕ) → has_priority machines priority i ≡ false → now i ≡ before i
   pub failed : IfSome first_failed (IsFailedMachine machines priority before now)
   pub refused : IfSome first_refused (IsRefusedMachine machines place)
+  pub told : tells → IfSome first_refused (IsToldMachine machines priority before)
   pub step : tells → EachPlaceholder machines priority before → (i : ℕ) → WaveStep (has_priority machines priority i) (is_before first_failed i) (in_bubble place) (before i) (now i)
   pub only_failed : tells → EachPlaceholder machines priority before → first_refused ≡ None
 

@@ -36,6 +36,16 @@ IsRefusal place want found =
     ((want ≡ post_code B None Placeholder) × ((post : Post) × (found ≡ told_by_refusal (post_code B None post))))
     ⊎ ((want ≡ post_code B (Some place) (Off (in_bubble place))) × ((post : Post) × (found ≡ told_by_refusal (post_code B (Some place) post))))
 
+-- the codes of a refused registration: of the placeholder that it needed, and of the post that stands at B
+abbrev pub ToldRefusal : Post → ℕ → ℕ → Type 0
+ToldRefusal post want found = (want ≡ post_code B None Placeholder) × (found ≡ told_by_refusal (post_code B None post))
+
+-- a start that was refused tells the codes of the post that stood at B before
+abbrev pub StartTold : Post → Result (Unit {0}) StartFail → Type 0
+StartTold post (Ok _) = Unit {0}
+StartTold post (Err Failed) = Unit {0}
+StartTold post (Err (Refused want found)) = ToldRefusal post want found
+
 -- what starting a placeholder leaves at B, by the answer; it is never refused
 abbrev pub StartStep : Placed → Post → Result (Unit {0}) StartFail → Type 0
 StartStep wanted new (Ok _) = new ≡ Ready wanted
@@ -93,6 +103,11 @@ pub record IsRefusedMachine (machines : List Machine) (place : Placement) (refus
   pub listed : refused.machine < length machines
   pub codes : IsRefusal place refused.wanted refused.found
 
+-- a refused machine of this priority, with the codes of its own post at B before
+pub record IsToldMachine (machines : List Machine) (priority : ℕ) (old : ℕ → PortState) (refused : RefusedMachine) : Type 0 where
+  pub priority_is : has_priority machines priority refused.machine ≡ true
+  pub codes : ToldRefusal (old refused.machine).post.b refused.wanted refused.found
+
 -- one machine after a priority was tried, by whether it is of that priority and comes before the first that failed
 abbrev pub WaveStep : Bool → Bool → Placed → PortState → PortState → Type 0
 WaveStep false sound wanted old new = new ≡ old
@@ -122,6 +137,12 @@ abbrev pub AllCause : List Machine → Placement → (ℕ → PortState) → (�
 AllCause machines place old new Done = Unit {0}
 AllCause machines place old new (EndFailed i) = FailedAt machines old new i
 AllCause machines place old new (EndRefused refused) = IsRefusedMachine machines place refused
+
+-- where a machine was refused, its codes are those of its own post at B before
+abbrev pub AllTold : (ℕ → PortState) → StartEnd → Type 0
+AllTold old Done = Unit {0}
+AllTold old (EndFailed i) = Unit {0}
+AllTold old (EndRefused refused) = ToldRefusal (old refused.machine).post.b refused.wanted refused.found
 
 -- where a start failed: each machine of an earlier priority is ready, each of the same was tried, and those with lesser numbers are ready
 pub record TriedAt (machines : List Machine) (wanted : Placed) (old new : ℕ → PortState) (i : ℕ) : Type 0 where

@@ -21,7 +21,7 @@ use Rattle.dr_model.specs.Opening.{AreOpeningPairs, AreOpeningMachines}
 use Rattle.dr_model.specs.StartUp.{InOrder}
 use Rattle.dr_model.specs.Testing.{DriftsButSnapshot, IsTestedPair, IsTestedMachine, in_bubble}
 use Rattle.dr_desk.specs.declared.lines.Estate.{Estate}
-use Rattle.dr_desk.specs.Starts.{priorities_of, ChangesAtB, StandsAsWanted, FailedAt, TriedAt, IsRefusal}
+use Rattle.dr_desk.specs.Starts.{priorities_of, ChangesAtB, StandsAsWanted, FailedAt, TriedAt, IsRefusal, ToldRefusal}
 
 -- where the machines of a test run: network, folder and pool are named `lab`
 abbrev pub lab : Placement
@@ -101,10 +101,11 @@ pub record IsPortFault (tells : Type 0) (slots : ℕ) (estate : Estate) (old new
   pub failed : FailedAt estate.machines old new machine
   pub tried : tells → AreOpeningMachines A slots old → TriedAt estate.machines in_lab old new machine
 
--- a machine of the estate that was refused, with the codes of its post; from the opening state none is
+-- a machine of the estate that was refused: where it tells its state, with the codes of its own post at B before; from the opening state none is
 pub record IsForeignMachine (tells : Type 0) (slots : ℕ) (estate : Estate) (old : ℕ → PortState) (machine wanted found : ℕ) : Type 0 where
   pub listed : machine < length estate.machines
   pub codes : IsRefusal lab wanted found
+  pub told : tells → ToldRefusal (old machine).post.b wanted found
   pub foreign : tells → AreOpeningMachines A slots old → ⊥
 
 -- a pair of the estate that was refused, with the codes of its half; from the opening state none is

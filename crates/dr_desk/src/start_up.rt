@@ -4,7 +4,7 @@ ghost use Rattle.dr_outside.specs.declared.machine.Post.TheVariants.{Placeholder
 ghost use Rattle.dr_outside.specs.Machines.{machine_at};
 ghost use Rattle.dr_model.specs.Codes.{post_code, told_by_refusal};
 ghost use Rattle.dr_model.specs.Testing.{in_bubble};
-ghost use Rattle.dr_desk.specs.Starts.{NoneFalls, ChangesAtB, StartStep, StartCause, WaveStep, EachPlaceholder, IsFailedMachine, IsRefusedMachine, has_priority, is_before, failed_after, refused_after, AllCause, AllStep, AllPlaceholders, ArePriorities};
+ghost use Rattle.dr_desk.specs.Starts.{NoneFalls, ChangesAtB, StartStep, StartCause, StartTold, WaveStep, EachPlaceholder, IsFailedMachine, IsRefusedMachine, IsToldMachine, has_priority, is_before, failed_after, refused_after, AllCause, AllStep, AllTold, AllPlaceholders, ArePriorities};
 
 use crate::Machine;
 use dr_base::{Placement, Side};
@@ -35,6 +35,7 @@ fn refusal(place: Option<&Placement>, needed: &Post, found: &Post) -> StartFail
 pub(crate) fn start_machine<P: Port>(port: &mut P, place: &Placement) -> Result<(), StartFail>
     ensures later { NoneFalls (P.state port.old) (P.state port.new) }
     ensures cause { StartCause place.now (P.state port.old) (P.state port.new) result }
+    ensures told { P.tells → StartTold (P.state port.old).post.b result }
     ensures elsewhere { P.tells → ChangesAtB (P.state port.old) (P.state port.new) }
     ensures step { P.tells → (P.state port.old).post.b ≡ Placeholder
         → StartStep (in_bubble place.now) (P.state port.new).post.b result }
@@ -65,6 +66,7 @@ fn start_at<P: Port>(ports: &mut [P], i: usize, place: &Placement) -> Result<(),
     ensures later { NoneFalls (machine_at P.state ports.old i) (machine_at P.state ports.new i) }
     ensures cause { StartCause place.now (machine_at P.state ports.old i)
         (machine_at P.state ports.new i) result }
+    ensures told { P.tells → StartTold (machine_at P.state ports.old i).post.b result }
     ensures elsewhere { P.tells
         → ChangesAtB (machine_at P.state ports.old i) (machine_at P.state ports.new i) }
     ensures step { P.tells → (machine_at P.state ports.old i).post.b ≡ Placeholder
@@ -135,6 +137,8 @@ pub(crate) fn start_priority<P: Port>(
         (IsFailedMachine machines.now priority (machine_at P.state ports.old)
         (machine_at P.state ports.new)) }
     ensures refused { IfSome result.refused (IsRefusedMachine machines.now place.now) }
+    ensures told { P.tells → IfSome result.refused
+        (IsToldMachine machines.now priority (machine_at P.state ports.old)) }
     ensures step { P.tells → EachPlaceholder machines.now priority (machine_at P.state ports.old)
         → (i : ℕ) → WaveStep (has_priority machines.now priority i) (is_before result.failed i)
         (in_bubble place.now)
@@ -179,6 +183,7 @@ pub(crate) fn start_all<P: Port>(
         → machine_at P.state ports.new i ≡ machine_at P.state ports.old i }
     ensures cause { AllCause machines.now place.now (machine_at P.state ports.old)
         (machine_at P.state ports.new) result }
+    ensures told { P.tells → AllTold (machine_at P.state ports.old) result }
     ensures step { P.tells → AllPlaceholders machines.now (machine_at P.state ports.old)
         → ArePriorities machines.now
         → AllStep machines.now (in_bubble place.now) (machine_at P.state ports.old)

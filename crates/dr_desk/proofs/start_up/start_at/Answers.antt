@@ -9,6 +9,10 @@ pub returns-clause-cause : goal.returns-clause-cause
 returns-clause-cause g c =
     rw (machine_at-set_same g.P.Port.state c.args.ports.now c.args.i c.start_machine.new.port c.requires, ← machine_at_is g.P.Port.state c.args.ports.now c.args.i c.index-ports-i.result c.requires) c.start_machine.ensures.cause
 
+pub returns-clause-told : goal.returns-clause-told
+returns-clause-told g c =
+    rw (← machine_at_is g.P.Port.state c.args.ports.now c.args.i c.index-ports-i.result c.requires) c.start_machine.ensures.told
+
 pub returns-clause-elsewhere : goal.returns-clause-elsewhere
 returns-clause-elsewhere g c =
     rw (machine_at-set_same g.P.Port.state c.args.ports.now c.args.i c.start_machine.new.port c.requires, ← machine_at_is g.P.Port.state c.args.ports.now c.args.i c.index-ports-i.result c.requires) c.start_machine.ensures.elsewhere

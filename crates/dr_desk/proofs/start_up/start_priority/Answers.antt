@@ -13,7 +13,7 @@ loop-i-preserved g c =
           eq-eqb _ _ (priority_at c.args.machines.now c.loop-i.i c.index-machines-i.result c.loop-i-test.true ∙ w.if-machines-i.true) in
           rw (w.ports-is, w.unstarted-is, w.after-unstarted.ensures.failed, w.after-unstarted.ensures.refused)
           (try c.args.machines.now c.args.priority c.args.place.now g.P.Port.tells _ c.loop-i.i _ _ _ _ is c.loop-i-test.true c.loop-i.invariant w.start_at.result
-          (record { later = w.start_at.ensures.later; cause = w.start_at.ensures.cause; elsewhere = w.start_at.ensures.elsewhere; step = w.start_at.ensures.step; others = w.start_at.ensures.others }))
+          (record { later = w.start_at.ensures.later; cause = w.start_at.ensures.cause; told = w.start_at.ensures.told; elsewhere = w.start_at.ensures.elsewhere; step = w.start_at.ensures.step; others = w.start_at.ensures.others }))
       | else-machines-i w ↦
           let isnt : has_priority c.args.machines.now c.args.priority c.loop-i.i ≡ false =
           ne_eqb _ _ (λ e. w.if-machines-i.false (sym (priority_at c.args.machines.now c.loop-i.i c.index-machines-i.result c.loop-i-test.true) ∙ e)) in

@@ -42,6 +42,7 @@ returns-in-Refused-clause-cause g c =
     record {
       listed = cause.listed;
       codes = cause.codes;
+      told = c.in-Refused.ensures.told;
       foreign = λ tells opening. c.in-Refused.ensures.step tells
           (rw c.as_slice.ensures (placeholders_before c.args.estate.now _ c.requires.enough (machine_at g.P.Port.state c.args.ports.now) (machine_at g.P.Port.state c.start_all.new.ports) opening))
           (rw c.as_slice.ensures (priorities_are c.args.estate.now c.requires.sound));
