@@ -6,6 +6,7 @@ use Rattle.dr_base.specs.declared.side.Side.TheVariants.{A, B}
 use Rattle.dr_base.specs.Sides.{other}
 use Rattle.dr_outside.specs.declared.pair.Content.{Content}
 use Rattle.dr_outside.specs.declared.pair.Pair.{Pair}
+use Rattle.dr_outside.specs.declared.pair.Half.{Half}
 use Rattle.dr_outside.specs.declared.pair.Snapshot.{Snapshot}
 use Rattle.dr_outside.specs.declared.pair.Link.{Link}
 use Rattle.dr_outside.specs.declared.pair.Link.TheVariants.{Live}
@@ -13,12 +14,12 @@ use Rattle.dr_outside.specs.declared.array.ArrayFail.{ArrayFail}
 use Rattle.dr_outside.specs.declared.array.ArrayFail.TheVariants.{Failed, Wrong}
 use Rattle.dr_outside.specs.declared.array.ArrayCall.TheVariants.{Sync, TestStart}
 use Rattle.dr_outside.specs.BySide.{at, put}
-use Rattle.dr_outside.specs.Pairs.{Frame, frame_of, is_live, is_target, Drift, Grows, Follows, Made, PairStep, made, is_fit}
+use Rattle.dr_outside.specs.Pairs.{Frame, frame_of, is_live, is_target, target, half, Drift, Grows, Follows, Made, PairStep, Read, made, is_fit}
 use Rattle.dr_outside.specs.Arrays.{ArrayState, ArrayStep, EachStep, is_listed}
 use Rattle.dr_outside.proofs.Drifts.{Drift-trans}
 use Rattle.dr_model.specs.Opening.{IsOpeningPair, AreOpeningPairs}
 use Rattle.dr_model.specs.Testing.{DriftsButSnapshot, IsTestedPair}
-use Rattle.dr_desk.specs.Storage.{StorageStep, PairDone}
+use Rattle.dr_desk.specs.Storage.{StorageStep, StorageTold, PairDone}
 
 is_from_a : (p : Pair) → IsOpeningPair A p → p.source ≡ A
 is_from_a p o = ap (λ (f : Frame). f.source) o.frame
@@ -186,3 +187,52 @@ module _ (run : ℕ) (list : List ℕ) (old : ArrayState) (opening : AreOpeningP
     after_start new (Err (Wrong k half)) s =
         let fit : is_fit (TestStart run) (mid.pair k) ≡ true = fit_to_start run (mid.pair k) (each_synced k s.first.listed).opening in
         cc (fit, s.first.unfit)
+
+-- a pair that shows what it showed before
+record Alike (p q : Pair) : Type 0 where
+  frame : frame_of q ≡ frame_of p
+  snapshot : q.snapshot ≡ p.snapshot
+
+-- replication and drift keep what a pair shows
+alike_after_sync : (done : Bool) (p q : Pair) → PairStep Sync done p q → Alike p q
+alike_after_sync true p q s = record { frame = s.after.frame ∙ s.before.frame; snapshot = s.after.snapshot ∙ s.before.snapshot }
+alike_after_sync false p q d = record { frame = d.frame; snapshot = d.snapshot }
+
+-- the half of this frame and snapshot
+abbrev showing : Side → Content → Frame → Option Snapshot → Half
+showing side content frame snapshot = record { source = frame.source; link = frame.link; writable = at side frame.writable; content = content; snapshot = snapshot }
+
+half_alike : (side : Side) (p q : Pair) → Alike p q → half side q ≡ record (half side p) { content = at side q.content }
+half_alike side p q a =
+    ap (λ (f : Frame). showing side (at side q.content) f q.snapshot) a.frame ∙ ap (λ (s : Option Snapshot). showing side (at side q.content) (frame_of p) s) a.snapshot
+
+-- a half that was read later at the target shows what the pair showed before
+shown_before : (p q r : Pair) → Alike p q → (found : Half) → Read (target q) q r found → found ≡ record (half (target p) p) { content = found.content }
+shown_before p q r a found read =
+    let side_is : target q ≡ target p = ap (λ (f : Frame). other f.source) a.frame in
+    let seen : found ≡ half (target p) read.moment = subst (λ (side : Side). found ≡ half side read.moment) side_is read.seen in
+    let both : Alike p read.moment = record { frame = read.before.frame ∙ a.frame; snapshot = read.before.snapshot ∙ a.snapshot } in
+    subst (λ (h : Half). h ≡ record (half (target p) p) { content = h.content }) (sym seen) (half_alike (target p) p read.moment both)
+
+fits_alike : (run : ℕ) (p q : Pair) → Alike p q → is_fit (TestStart run) q ≡ is_fit (TestStart run) p
+fits_alike run p q a =
+    ap (λ (f : Frame). is_live f.link && not (is_some q.snapshot)) a.frame ∙ ap (λ (s : Option Snapshot). is_live p.link && not (is_some s)) a.snapshot
+
+-- replication failed or was refused
+pub told_by_sync : (run : ℕ) (list : List ℕ) (old new : ArrayState) (fail : ArrayFail) → ArrayStep Sync list old new (Err fail) → StorageTold run old.pair (Err fail)
+told_by_sync run list old new (Failed side) s = tt
+told_by_sync run list old new (Wrong k found) s = record {
+  unfit = ap (λ (b : Bool). b && not (is_some (old.pair k).snapshot)) s.first.unfit;
+  shown = shown_before (old.pair k) (old.pair k) (new.pair k) (record { frame = refl; snapshot = refl }) found s.read;
+}
+
+-- replication was done, and the snapshots were taken, or failed, or were refused
+pub told_by_start : (run : ℕ) (list : List ℕ) (old mid new : ArrayState) → EachStep Sync (is_listed list) old.pair mid.pair → (result : Result (Unit {0}) ArrayFail) → ArrayStep (TestStart run) list mid new result → StorageTold run old.pair result
+told_by_start run list old mid new sync (Ok done) s = tt
+told_by_start run list old mid new sync (Err (Failed side)) s = tt
+told_by_start run list old mid new sync (Err (Wrong k found)) s =
+    let alike : Alike (old.pair k) (mid.pair k) = alike_after_sync (is_listed list k) (old.pair k) (mid.pair k) (sync k) in
+    record {
+      unfit = sym (fits_alike run (old.pair k) (mid.pair k) alike) ∙ s.first.unfit;
+      shown = shown_before (old.pair k) (mid.pair k) (new.pair k) alike found s.read;
+    }

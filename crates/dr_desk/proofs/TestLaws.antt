@@ -4,10 +4,12 @@ use Rattle.std.proofs.lemmas.Bool.{cases_order}
 use Rattle.std.proofs.lemmas.List.{length-map}
 use Rattle.std.specs.Prelude.{slice_index_or}
 use Rattle.dr_base.specs.declared.side.Side.TheVariants.{A, B}
+use Rattle.dr_base.specs.Sides.{other}
 use Rattle.dr_base.specs.declared.answer.Answer.{Answer}
 use Rattle.dr_base.specs.declared.answer.Answer.TheVariants.{ArrayFault, Done, Foreign, PortFault}
 use Rattle.dr_base.specs.declared.answer.Thing.TheVariants.{Machine as MachineThing}
 use Rattle.dr_outside.specs.declared.pair.Pair.{Pair}
+use Rattle.dr_outside.specs.declared.pair.Half.{Half}
 use Rattle.dr_outside.specs.Arrays.{ArrayState, is_listed}
 use Rattle.dr_outside.specs.declared.machine.Post.TheVariants.{Placeholder}
 use Rattle.dr_outside.specs.Machines.{PortState}
@@ -20,9 +22,9 @@ use Rattle.dr_desk.specs.declared.start_up.StartEnd.{StartEnd}
 use Rattle.dr_desk.specs.declared.start_up.StartEnd.TheVariants.{Done as AllDone, Failed, Refused}
 use Rattle.dr_desk.specs.Lines.{IsSound}
 use Rattle.dr_desk.specs.Starts.{ChangesAtB, StandsAsWanted, FailedAt, TriedAt, AllCause, AllStep, AllPlaceholders, ArePriorities, priority_of, priorities_of}
-use Rattle.dr_desk.specs.Tests.{lab, in_lab, AreInOrder, AreTestedMachines, AreTestedPairs, AreTestedByGroup, KeepsPairs, PairsDone}
+use Rattle.dr_desk.specs.Tests.{lab, in_lab, AreInOrder, AreTestedMachines, AreTestedPairs, AreTestedByGroup, KeepsPairs, PairsDone, IsToldPair, opening_code, refused_code}
 use Rattle.dr_desk.specs.PairLists.{CountsUp}
-use Rattle.dr_desk.specs.Storage.{PairDone, SomeSnapshots}
+use Rattle.dr_desk.specs.Storage.{PairDone, SomeSnapshots, IsUnfitPair}
 use Rattle.dr_desk.proofs.PairListLaws.{is_listed-below, is_listed-past}
 use Rattle.dr_desk.proofs.StartLaws.{priority_at}
 use Rattle.dr_desk.proofs.StorageLaws.{beside}
@@ -130,3 +132,11 @@ pairs_done estate old new (PortFault machine) tested = tested
 pairs_done estate old new (Foreign (MachineThing machine) wanted found) tested = tested
 pairs_done estate old new (ArrayFault side) tested = record { done = λ group. true; tested = λ i l d. tested.tested i l; left = λ i l d. cc d }
 pairs_done estate old new _ tested = tt
+
+-- the codes of the half that was found are those of the pair's own
+pub told_pair : (old : Pair) (found : Half) → IsUnfitPair 1 old found → IsToldPair old (opening_code (other found.source)) (refused_code found)
+told_pair old found u = record {
+  unfit = u.unfit;
+  want = ap (λ (h : Half). opening_code (other h.source)) u.shown;
+  is = ap refused_code u.shown;
+}

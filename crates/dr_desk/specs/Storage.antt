@@ -1,9 +1,11 @@
 -- What replicating pairs and taking their snapshots leaves.
-use Rattle.std.specs.Prelude.{ℕ, Bool, true, false, ◌&&◌, List, Result, Ok, Err}
+use Rattle.std.specs.Prelude.{ℕ, ◌≡◌, Bool, true, false, ◌&&◌, List, Result, Ok, Err}
 use Rattle.dr_outside.specs.declared.pair.Pair.{Pair}
+use Rattle.dr_outside.specs.declared.pair.Half.{Half}
+use Rattle.dr_outside.specs.declared.array.ArrayCall.TheVariants.{TestStart}
 use Rattle.dr_outside.specs.declared.array.ArrayFail.{ArrayFail}
 use Rattle.dr_outside.specs.declared.array.ArrayFail.TheVariants.{Failed, Wrong}
-use Rattle.dr_outside.specs.Pairs.{Drift}
+use Rattle.dr_outside.specs.Pairs.{Drift, half, target, is_fit}
 use Rattle.dr_outside.specs.Arrays.{ArrayState, is_listed}
 use Rattle.dr_model.specs.Testing.{IsTestedPair}
 
@@ -22,3 +24,14 @@ abbrev pub StorageStep : ℕ → List ℕ → ArrayState → ArrayState → Resu
 StorageStep run list old new (Ok _) = (i : ℕ) → PairDone run (is_listed list i) (old.pair i) (new.pair i)
 StorageStep run list old new (Err (Failed side)) = SomeSnapshots run list old.group old.pair new.pair
 StorageStep run list old new (Err (Wrong k half)) = ⊥
+
+-- a pair that wasn't as a test needs it, and what was found: its target's half as it was before, but for its content
+pub record IsUnfitPair (run : ℕ) (old : Pair) (found : Half) : Type 0 where
+  pub unfit : is_fit (TestStart run) old ≡ false
+  pub shown : found ≡ record (half (target old) old) { content = found.content }
+
+-- a refused pair wasn't as a test needs it, and is told with its own half
+abbrev pub StorageTold : ℕ → (ℕ → Pair) → Result (Unit {0}) ArrayFail → Type 0
+StorageTold run old (Ok _) = Unit {0}
+StorageTold run old (Err (Failed side)) = Unit {0}
+StorageTold run old (Err (Wrong k found)) = IsUnfitPair run (old k) found

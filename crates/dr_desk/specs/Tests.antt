@@ -13,7 +13,8 @@ use Rattle.dr_base.specs.declared.refusal.SlotKind.TheVariants.{Machines, Pairs}
 use Rattle.dr_outside.specs.declared.pair.Half.{Half}
 use Rattle.dr_outside.specs.declared.pair.Pair.{Pair}
 use Rattle.dr_outside.specs.declared.machine.Placed.{Placed}
-use Rattle.dr_outside.specs.Pairs.{Drift}
+use Rattle.dr_outside.specs.declared.array.ArrayCall.TheVariants.{TestStart}
+use Rattle.dr_outside.specs.Pairs.{Drift, half, target, is_fit}
 use Rattle.dr_outside.specs.Arrays.{ArrayState}
 use Rattle.dr_outside.specs.Machines.{PortState, machine_at}
 use Rattle.dr_model.specs.Codes.{bit, half_code, told_by_refusal}
@@ -108,9 +109,16 @@ pub record IsForeignMachine (tells : Type 0) (slots : ℕ) (estate : Estate) (ol
   pub told : tells → ToldRefusal (old machine).post.b wanted found
   pub foreign : tells → AreOpeningMachines A slots old → ⊥
 
--- a pair of the estate that was refused, with the codes of its half; from the opening state none is
+-- a pair that wasn't as run 1 needs it, with the codes of its own target's half as it was before
+pub record IsToldPair (old : Pair) (wanted found : ℕ) : Type 0 where
+  pub unfit : is_fit (TestStart 1) old ≡ false
+  pub want : wanted ≡ opening_code (target old)
+  pub is : found ≡ refused_code (half (target old) old)
+
+-- a pair of the estate that was refused: where the array tells its state, with the codes of its own target's half before; from the opening state none is
 pub record IsForeignPair (tells : Type 0) (estate : Estate) (old : ArrayState) (pair wanted found : ℕ) : Type 0 where
   pub refused : IsRefusedPair estate pair wanted found
+  pub told : tells → IsToldPair (old.pair pair) wanted found
   pub foreign : tells → AreOpeningPairs A old → ⊥
 
 -- when starting the estate's machines gives each answer

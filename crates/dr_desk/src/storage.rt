@@ -2,7 +2,7 @@ ghost use Rattle.std.specs.Prelude.{◌≡◌, length};
 ghost use Rattle.dr_base.specs.declared.side.Side.TheVariants.{A as SideA};
 ghost use Rattle.dr_outside.specs.Arrays.{IsPairList, ArrayCause, NamesListed};
 ghost use Rattle.dr_model.specs.Opening.{AreOpeningPairs};
-ghost use Rattle.dr_desk.specs.Storage.{StorageStep};
+ghost use Rattle.dr_desk.specs.Storage.{StorageStep, StorageTold};
 
 use dr_outside::{Array, ArrayFail};
 
@@ -15,6 +15,7 @@ pub(crate) fn snapshot_pairs<A: Array>(
     requires { IsPairList (A.state array.old).count list.now }
     ensures listed { NamesListed list.now result }
     ensures cause { ArrayCause (A.state array.old) (A.state array.new) result }
+    ensures told { A.tells → StorageTold run (A.state array.old).pair result }
     ensures step { A.tells → AreOpeningPairs SideA (A.state array.old)
         → StorageStep run list.now (A.state array.old) (A.state array.new) result }
     ensures no_pairs { length list.now ≡ 0 → A.state array.new ≡ A.state array.old }
