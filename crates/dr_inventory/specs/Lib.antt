@@ -1,0 +1,13 @@
+pub mod Part
+pub mod Shapes
+pub mod Tables
+pub mod Plans
+pub mod Maps
+pub mod Documents
+pub mod Names
+pub mod Rules
+pub mod Limits
+pub mod Places
+pub mod Numbers
+pub mod Estates
+pub mod Sound
