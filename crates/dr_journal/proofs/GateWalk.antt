@@ -1,0 +1,64 @@
+-- The walk over the gates of a file, step by step.
+use Rattle.std.proofs.Common.{◌≡◌, ◌≢◌, inl, inr, ℕ, suc, ◌+◌, ◌<◌, ◌≤◌, ◌^◌, List, [], ◌∷◌, ◌++◌, length, get_or, take, drop, true, nat_eq, refl, sym, ◌∙◌, ap, arith, length-append, length-take, length-drop, append_assoc}
+use Rattle.std.proofs.Math.Seq.{take-add}
+use Rattle.std.specs.Cmp.Lexicographic.{same_text}
+use Rattle.std.proofs.lemmas.List.{append-nil, take-append-drop, drop_more, get_or-drop, get_or-take, get_or_past}
+use Rattle.std.proofs.lemmas.Bool.{cases_lt}
+use Rattle.std.proofs.lemmas.Nat.{be_bytes_4}
+use Rattle.std.specs.Int.{to_be_bytes, w32}
+use Rattle.std.specs.List.{starts_with}
+use Rattle.dr_journal.specs.Reading.{header, body_size, journal_in, record_bytes, all_record_bytes}
+use Rattle.dr_journal.specs.Reading.Reading.{DamagedAt}
+use Rattle.dr_journal.specs.Held.{HasFront, ClosesAt}
+use Rattle.dr_journal.proofs.FileParts.{length-header, journal_in-open, all_record_bytes-push}
+
+pub begun : (form : ℕ) (file : List ℕ) → 18 ≤ length file → starts_with nat_eq file (header form) ≡ true → HasFront form [] 16 file
+begun form file long begins = record {
+  front = ap (λ (n : ℕ). take n file) (sym (length-header form)) ∙ sym (same_text (header form) (take (length (header form)) file) (sym begins)) ∙ sym (append-nil (header form));
+  inside = omega arith;
+}
+
+module _ (form : ℕ) (bodies : List (List ℕ)) (at : ℕ) (file : List ℕ) (front : HasFront form bodies at file) where
+  pub place_is : at ≡ 16 + length (all_record_bytes bodies)
+  place_is = omega (arith, length-take at file, ap length front.front, length-append (header form) (all_record_bytes bodies), length-header form, front.inside)
+
+  pub split : (gate : ℕ) → get_or file at 0 ≡ gate → file ≡ header form ++ (all_record_bytes bodies ++ gate ∷ drop (at + 1) file)
+  split gate is =
+      sym (take-append-drop at file)
+      ∙ ap (λ (l : List ℕ). l ++ drop at file) front.front
+      ∙ ap (λ (l : List ℕ). (header form ++ all_record_bytes bodies) ++ l) (drop_more file at 0 front.inside ∙ ap (λ (g : ℕ). g ∷ drop (at + 1) file) is)
+      ∙ append_assoc (header form) (all_record_bytes bodies) (gate ∷ drop (at + 1) file)
+
+  pub cut_short : length file < 2 ^ 32 → 18 ≤ length file → get_or file at 0 ≡ 165 → length (drop (at + 1) file) ≤ 4 + body_size (drop (at + 1) file) → journal_in form file ≡ DamagedAt at
+  cut_short short long is cut =
+      ap (journal_in form) (split 165 is)
+      ∙ journal_in-open form bodies (drop (at + 1) file) cut (omega (arith, place_is, length-drop (at + 1) file, front.inside)) (omega (arith, place_is, front.inside))
+      ∙ ap DamagedAt (sym place_is)
+
+  pub ends : get_or file at 0 ≢ 165 → ClosesAt form bodies at file
+  ends shut = record { gate = get_or file at 0; rest = drop (at + 1) file; whole = split (get_or file at 0) refl; shut = shut; is_at = place_is }
+
+bytes_fit : (file : List ℕ) (k : ℕ) → ((i : ℕ) → get_or file i 0 < 256) → (i : ℕ) → get_or (take 4 (drop k file)) i 0 < 256
+bytes_fit file k fits i = elim (cases_lt i 4) [
+  | inl below ↦ rw (get_or-take 4 (drop k file) i 0 below, get_or-drop k file i 0) (fits (k + i))
+  | inr past ↦ rw (get_or_past (take 4 (drop k file)) i 0 (omega (arith, length-take 4 (drop k file)))) (omega arith)
+]
+
+pub goes_on : (form : ℕ) (bodies : List (List ℕ)) (at n : ℕ) (file : List ℕ) → HasFront form bodies at file → ((i : ℕ) → get_or file i 0 < 256) → get_or file at 0 ≡ 165 → n ≡ body_size (drop (at + 1) file)
+    → 4 + n < length (drop (at + 1) file) → HasFront form (bodies ++ take n (drop 4 (drop (at + 1) file)) ∷ []) (at + (5 + n)) file
+unfolding body_size
+goes_on form bodies at n file front fits is n_is whole =
+    let rest = drop (at + 1) file in
+    let body = take n (drop 4 rest) in
+    let body_len : length body ≡ n = omega (arith, length-take n (drop 4 rest), length-drop 4 rest) in
+    let four : length (take 4 rest) ≡ 4 = omega (arith, length-take 4 rest) in
+    let field : to_be_bytes w32 (length body) ≡ take 4 rest = ap (to_be_bytes w32) body_len ∙ be_bytes_4 (take 4 rest) n four (bytes_fit file (at + 1) fits) n_is in
+    let whole_len : 5 + n ≡ suc (4 + n) = omega arith in
+    let here : drop at file ≡ 165 ∷ rest = drop_more file at 0 front.inside ∙ ap (λ (g : ℕ). g ∷ rest) is in
+    let next : take (5 + n) (drop at file) ≡ record_bytes body =
+    ap (take (5 + n)) here ∙ ap (λ (k : ℕ). take k (165 ∷ rest)) whole_len ∙ ap (λ (l : List ℕ). 165 ∷ l) (take-add 4 n rest ∙ ap (λ (l : List ℕ). l ++ body) (sym field)) in
+    record {
+      front = take-add at (5 + n) file ∙ ap (λ (l : List ℕ). take at file ++ l) next ∙ ap (λ (l : List ℕ). l ++ record_bytes body) front.front
+          ∙ append_assoc (header form) (all_record_bytes bodies) (record_bytes body) ∙ ap (λ (l : List ℕ). header form ++ l) (sym (all_record_bytes-push bodies body));
+      inside = omega (arith, length-drop (at + 1) file);
+    }

@@ -1,0 +1,7 @@
+mod FileParts
+mod GateWalk
+mod AppendedFile
+mod AppendCalls
+mod OpenedFile
+mod NextRecord
+pub mod Laws

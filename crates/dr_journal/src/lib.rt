@@ -1,0 +1,14 @@
+//! The gated journal: a file of records on any disk. A record counts once the gate in front of it
+//! is open, which is the last byte of it that is written.
+#![tactic(auto)]
+
+mod fault;
+mod journal;
+mod opening;
+mod reading;
+#[cfg(test)]
+mod tests;
+mod walk;
+
+pub use fault::JournalFault;
+pub use journal::Journal;
