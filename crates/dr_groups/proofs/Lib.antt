@@ -1,0 +1,9 @@
+pub mod ForestLaws
+pub mod ChainLaws
+pub mod TreeLaws
+pub mod RowLaws
+pub mod MarkLaws
+pub mod SplitLaws
+pub mod SharedLaws
+pub mod HoldingLaws
+pub mod FaultLaws

@@ -1,0 +1,18 @@
+//! Datastore groups, which must be recovered together, and what protection groups hold.
+#![tactic(auto)]
+
+mod forest;
+mod holdings;
+mod labels;
+pub mod laws;
+mod leaders;
+mod lists;
+mod marks;
+mod shared;
+mod splits;
+#[cfg(test)]
+mod tests;
+
+pub use holdings::members;
+pub use labels::datastore_groups;
+pub use lists::Members;

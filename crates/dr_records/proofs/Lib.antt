@@ -1,0 +1,9 @@
+pub mod Entries
+pub mod Fields
+pub mod Formats
+pub mod Lists
+pub mod Loop
+pub mod NameReading
+pub mod Names
+pub mod RecordKinds
+pub mod Whole

@@ -1,0 +1,16 @@
+//! The records of the journal, and the one spelling of each in bytes.
+#![tactic(auto)]
+
+mod decoding;
+pub mod laws;
+mod reading;
+mod record_fault;
+mod records;
+#[cfg(test)]
+mod tests;
+mod writing;
+
+pub use decoding::decode;
+pub use record_fault::RecordFault;
+pub use records::{Record, StartPair, StartRow};
+pub use writing::encode;
