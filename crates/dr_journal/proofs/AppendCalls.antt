@@ -19,7 +19,7 @@ none_of body old new bodies old_is new_is =
 pub all_of : (body old new : List ℕ) → Appends (body ∷ []) old new → AppendsSome (body ∷ []) old new
 all_of body old new appends = record { count = 1; within = omega arith; appends = appends }
 
-module _ (journal : JournalState) (R0 : Option (List ℕ)) (I0 : List ℕ → Type 0) (open_before : IsOpen journal R0 I0) (body bytes : List ℕ) (is_field : bytes ≡ field body) (fits : journal.file_length + (5 + length body) < 2 ^ 32) (end at : ℕ) (is_end : end ≡ journal.file_length) (is_at : at + 1 ≡ end) (n : ℕ) where
+module _ (journal : JournalState) (reads0 : Option (List ℕ)) (I0 : List ℕ → Type 0) (open_before : IsOpen journal reads0 I0) (body bytes : List ℕ) (is_field : bytes ≡ field body) (fits : journal.file_length + (5 + length body) < 2 ^ 32) (end at : ℕ) (is_end : end ≡ journal.file_length) (is_at : at + 1 ≡ end) (n : ℕ) where
   module _ (I1 : List ℕ → Type 0) (first : Follows (Torn end n) I0 I1) where
     pub written_once : (c : List ℕ) → I1 c → (x : List ℕ) × I0 x × AppendsSome (body ∷ []) x c
     written_once c here =
@@ -31,8 +31,8 @@ module _ (journal : JournalState) (R0 : Option (List ℕ)) (I0 : List ℕ → Ty
           none_of body from.0 c known.0 (had form_1 known.0 from.0 known.1) (torn_behind form_1 known.0 from.0 known.1 end n c (is_end ∙ sym (open_before.ends from.0 reads)) from.2),
         )
 
-    module _ (R1 : Option (List ℕ)) (write : R1 ≡ option_map (written end bytes) R0) (I2 : List ℕ → Type 0) (others : NoOther I1 I2) (one : (c : List ℕ) → I2 c → R1 ≡ Some c) where
-      reads_staged : (x : List ℕ) → I0 x → R1 ≡ Some (staged body x)
+    module _ (reads1 : Option (List ℕ)) (write : reads1 ≡ option_map (written end bytes) reads0) (I2 : List ℕ → Type 0) (others : NoOther I1 I2) (one : (c : List ℕ) → I2 c → reads1 ≡ Some c) where
+      reads_staged : (x : List ℕ) → I0 x → reads1 ≡ Some (staged body x)
       reads_staged x here =
           let reads = open_before.one x here in
           let known = open_before.trimmed x reads in
@@ -59,7 +59,7 @@ module _ (journal : JournalState) (R0 : Option (List ℕ)) (I0 : List ℕ → Ty
                   (torn_gate form_1 known.0 was.0 known.1 body at (omega arith) c (omega arith) (subst (λ (f : List ℕ). Torn at 1 f c) was.2 from.2)),
             )
 
-        module _ (R2 R3 : Option (List ℕ)) (same : R2 ≡ R1) (gate : R3 ≡ option_map (written at (165 ∷ [])) R2) (I4 : List ℕ → Type 0) (others_too : NoOther I3 I4) (one_too : (c : List ℕ) → I4 c → R3 ≡ Some c) where
+        module _ (reads2 reads3 : Option (List ℕ)) (same : reads2 ≡ reads1) (gate : reads3 ≡ option_map (written at (165 ∷ [])) reads2) (I4 : List ℕ → Type 0) (others_too : NoOther I3 I4) (one_too : (c : List ℕ) → I4 c → reads3 ≡ Some c) where
           pub is_final : (c : List ℕ) → I4 c → (x : List ℕ) × I0 x × (bodies : List (List ℕ)) × (rest : IsTrimmed form_1 bodies x) × (c ≡ final form_1 bodies x rest body)
           is_final c here =
               let from = second c (others_too c here) in
@@ -67,7 +67,7 @@ module _ (journal : JournalState) (R0 : Option (List ℕ)) (I0 : List ℕ → Ty
               let reads = open_before.one was.0 was.1 in
               let known = open_before.trimmed was.0 reads in
               let long = open_before.ends was.0 reads in
-              let now : R3 ≡ Some (final form_1 known.0 was.0 known.1 body) =
+              let now : reads3 ≡ Some (final form_1 known.0 was.0 known.1 body) =
               gate ∙ ap (option_map (written at (165 ∷ []))) (same ∙ reads_staged was.0 was.1) ∙ ap Some (written_gate form_1 known.0 was.0 known.1 body at (omega arith)) in
               (was.0, was.1, known.0, known.1, same_Some c (final form_1 known.0 was.0 known.1 body) (sym (one_too c here) ∙ now))
 
@@ -77,8 +77,8 @@ module _ (journal : JournalState) (R0 : Option (List ℕ)) (I0 : List ℕ → Ty
               let long = open_before.ends was.0 (open_before.one was.0 was.1) in
               (was.0, was.1, record { bodies = was.2; had = had form_1 was.2 was.0 was.3; has = ap journal_of was.4 ∙ has_final form_1 was.2 was.0 was.3 body (omega arith) })
 
-          pub open_after : (after : JournalState) (R4 : Option (List ℕ)) → after.file_length ≡ journal.file_length + (5 + length body) → R4 ≡ R3 → ((c : List ℕ) → R4 ≡ Some c → I4 c) → IsOpen after R4 I4
-          open_after after R4 ends keeps finds = record {
+          pub open_after : (after : JournalState) (reads4 : Option (List ℕ)) → after.file_length ≡ journal.file_length + (5 + length body) → reads4 ≡ reads3 → ((c : List ℕ) → reads4 ≡ Some c → I4 c) → IsOpen after reads4 I4
+          open_after after reads4 ends keeps finds = record {
             one = λ c here. keeps ∙ one_too c here;
             trimmed = λ c reads.
                 let was = is_final c (finds c reads) in

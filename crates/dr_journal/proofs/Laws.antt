@@ -26,19 +26,19 @@ open_records journal R I is_open c here =
     (known.0, had form_1 known.0 c known.1)
 
 -- an open journal stays so where nothing is written
-pub open_kept : (journal : JournalState) (R0 R1 : Option (List ℕ)) (I0 I1 : List ℕ → Type 0) → IsOpen journal R0 I0 → R1 ≡ R0 → NoOther I0 I1 → IsOpen journal R1 I1
-open_kept journal R0 R1 I0 I1 is_open same others = record {
+pub open_kept : (journal : JournalState) (reads0 reads1 : Option (List ℕ)) (I0 I1 : List ℕ → Type 0) → IsOpen journal reads0 I0 → reads1 ≡ reads0 → NoOther I0 I1 → IsOpen journal reads1 I1
+open_kept journal reads0 reads1 I0 I1 is_open same others = record {
   one = λ file here. same ∙ is_open.one file (others file here);
   trimmed = λ file reads. is_open.trimmed file (sym same ∙ reads);
   ends = λ file reads. is_open.ends file (sym same ∙ reads);
 }
 
 -- a file that was opened, and is read with the same records, was whole
-pub whole_where_open : (journal : JournalState) (R0 R1 : Option (List ℕ)) (I : List ℕ → Type 0) → IsOpen journal R1 I → is_some R1 ≡ is_some R0
-    → ((old : List ℕ) → R0 ≡ Some old → (new : List ℕ) → R1 ≡ Some new → SameRecords old new)
-    → (old : List ℕ) → R0 ≡ Some old → (bodies : List (List ℕ)) × (journal_of old ≡ Whole bodies)
-whole_where_open journal R0 None I is_open tells same old reads = let none : false ≡ true = tells ∙ ap is_some reads in cc
-whole_where_open journal R0 (Some new) I is_open tells same old reads =
+pub whole_where_open : (journal : JournalState) (reads0 reads1 : Option (List ℕ)) (I : List ℕ → Type 0) → IsOpen journal reads1 I → is_some reads1 ≡ is_some reads0
+    → ((old : List ℕ) → reads0 ≡ Some old → (new : List ℕ) → reads1 ≡ Some new → SameRecords old new)
+    → (old : List ℕ) → reads0 ≡ Some old → (bodies : List (List ℕ)) × (journal_of old ≡ Whole bodies)
+whole_where_open journal reads0 None I is_open tells same old reads = let none : false ≡ true = tells ∙ ap is_some reads in cc
+whole_where_open journal reads0 (Some new) I is_open tells same old reads =
     let known = is_open.trimmed new refl in
     (known.0, sym (same old reads new refl) ∙ had form_1 known.0 new known.1)
 

@@ -46,10 +46,10 @@ pub empty_trimmed : (bytes c : List ℕ) → bytes ≡ header form_1 ++ 0 ∷ []
 empty_trimmed bytes c is here = record { gate = 0; whole = here ∙ is; shut = λ e. cc; short = omega (arith, ap length (here ∙ is), length-append (header form_1) (0 ∷ []), length-header form_1) }
 
 -- a file that was cut to nothing and written
-pub renewed : (R0 R1 R2 R3 : Option (List ℕ)) (bytes : List ℕ) → bytes ≡ header form_1 ++ 0 ∷ [] → R1 ≡ option_map (take 0) R0 → R2 ≡ option_map (written 0 bytes) R1 → R3 ≡ R2 → (c : List ℕ) → R3 ≡ Some c → c ≡ bytes
-renewed R0 R1 R2 R3 bytes is cut write same c reads =
-    let second = mapped (written 0 bytes) R1 c (sym write ∙ sym same ∙ reads) in
-    let first = mapped (take 0) R0 second.0 (sym cut ∙ second.1) in
+pub renewed : (reads0 reads1 reads2 reads3 : Option (List ℕ)) (bytes : List ℕ) → bytes ≡ header form_1 ++ 0 ∷ [] → reads1 ≡ option_map (take 0) reads0 → reads2 ≡ option_map (written 0 bytes) reads1 → reads3 ≡ reads2 → (c : List ℕ) → reads3 ≡ Some c → c ≡ bytes
+renewed reads0 reads1 reads2 reads3 bytes is cut write same c reads =
+    let second = mapped (written 0 bytes) reads1 c (sym write ∙ sym same ∙ reads) in
+    let first = mapped (take 0) reads0 second.0 (sym cut ∙ second.1) in
     let none : drop (0 + length bytes) (take 0 first.0) ≡ [] = drop_all (0 + length bytes) [] (omega arith) in
     second.2 ∙ ap (written 0 bytes) first.2 ∙ ap (λ (l : List ℕ). bytes ++ l) none ∙ append-nil bytes
 
@@ -84,22 +84,22 @@ module _ (file : List ℕ) (gate : ℕ) (bodies : List (List ℕ)) (ends : Close
   pub cut_ends : (c : List ℕ) → c ≡ take (gate + 1) file → length c ≡ gate + 1
   cut_ends c is = omega (arith, ap length is, length-take (gate + 1) file, inside)
 
-module _ (R0 : Option (List ℕ)) (I0 I1 : List ℕ → Type 0) (gate : ℕ) (small : gate < 67108864) (one : (c : List ℕ) → I0 c → R0 ≡ Some c) (ends : (f : List ℕ) → R0 ≡ Some f → (bodies : List (List ℕ)) × ClosesAt form_1 bodies gate f) (cut : Follows (Cut (gate + 1)) I0 I1) where
+module _ (reads0 : Option (List ℕ)) (I0 I1 : List ℕ → Type 0) (gate : ℕ) (small : gate < 67108864) (one : (c : List ℕ) → I0 c → reads0 ≡ Some c) (ends : (f : List ℕ) → reads0 ≡ Some f → (bodies : List (List ℕ)) × ClosesAt form_1 bodies gate f) (cut : Follows (Cut (gate + 1)) I0 I1) where
   pub trimmed_same : (c : List ℕ) → I1 c → (x : List ℕ) × I0 x × SameRecords x c
   trimmed_same c here =
       let from = cut c here in
       let known = ends from.0 (one from.0 from.1) in
       (from.0, from.1, cut_same from.0 gate known.0 known.1 small c from.2)
 
-  pub trimmed : (after : JournalState) (R1 R2 : Option (List ℕ)) (I2 : List ℕ → Type 0) → after.file_length ≡ gate + 1 → R1 ≡ option_map (take (gate + 1)) R0 → R2 ≡ R1 → ((c : List ℕ) → I2 c → R1 ≡ Some c) → IsOpen after R2 I2
-  trimmed after R1 R2 I2 is was same only = record {
+  pub trimmed : (after : JournalState) (reads1 reads2 : Option (List ℕ)) (I2 : List ℕ → Type 0) → after.file_length ≡ gate + 1 → reads1 ≡ option_map (take (gate + 1)) reads0 → reads2 ≡ reads1 → ((c : List ℕ) → I2 c → reads1 ≡ Some c) → IsOpen after reads2 I2
+  trimmed after reads1 reads2 I2 is was same only = record {
     one = λ c here. same ∙ only c here;
     trimmed = λ c reads.
-        let from = mapped (take (gate + 1)) R0 c (sym was ∙ sym same ∙ reads) in
+        let from = mapped (take (gate + 1)) reads0 c (sym was ∙ sym same ∙ reads) in
         let known = ends from.0 from.1 in
         (known.0, cut_trimmed from.0 gate known.0 known.1 small c from.2);
     ends = λ c reads.
-        let from = mapped (take (gate + 1)) R0 c (sym was ∙ sym same ∙ reads) in
+        let from = mapped (take (gate + 1)) reads0 c (sym was ∙ sym same ∙ reads) in
         let known = ends from.0 from.1 in
         cut_ends from.0 gate known.0 known.1 small c from.2 ∙ sym is;
   }
