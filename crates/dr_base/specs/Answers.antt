@@ -1,7 +1,7 @@
 -- The status of an answer, with which the program ends.
 use Rattle.std.specs.Prelude.{ℕ}
 use Rattle.dr_base.specs.declared.answer.Answer.{Answer}
-use Rattle.dr_base.specs.declared.answer.Answer.TheVariants.{Done, Loaded, Replied, Shown, BadWords, BadEstate, Estate, Groups, Plan, Unmapped, Refused, Request, TooLong, Waiting, Incomplete, ArrayFault, PortFault, CalloutFault, JournalFault, ReadFault, WriteFault, NoMemory, JournalDamaged, Foreign}
+use Rattle.dr_base.specs.declared.answer.Answer.TheVariants.{Done, Loaded, Replied, Shown, BadWords, Estate, Groups, Plan, Unmapped, Refused, Request, TooLong, Waiting, Incomplete, ArrayFault, PortFault, CalloutFault, JournalFault, ReadFault, WriteFault, NoMemory, JournalDamaged, Foreign}
 
 -- 0 is success, 1 and 2 are refusals, 3 and 4 ask for an operator, 5 to 13 are faults
 abbrev pub status_of : Answer → ℕ
@@ -10,7 +10,6 @@ status_of Loaded = 0
 status_of Replied = 0
 status_of Shown = 0
 status_of (BadWords place) = 1
-status_of (BadEstate line) = 2
 status_of (Estate fault) = 2
 status_of (Groups fault) = 2
 status_of (Plan name fault) = 2

@@ -31,8 +31,6 @@ pub enum Answer {
     Shown,
     /// The word at this place, from 0, begins no command; or one is missing there.
     BadWords(u32),
-    /// This line isn't in the form of an estate, or doesn't fit the lines before it.
-    BadEstate(u32),
     /// The estate is faulty.
     Estate(EstateFault),
     /// The estate's protection groups are faulty.
@@ -80,8 +78,7 @@ impl Answer {
         match self {
             Answer::Done(_) | Answer::Loaded | Answer::Replied | Answer::Shown => 0,
             Answer::BadWords(_) => 1,
-            Answer::BadEstate(_)
-            | Answer::Estate(_)
+            Answer::Estate(_)
             | Answer::Groups(_)
             | Answer::Plan(_, _)
             | Answer::Unmapped(_)

@@ -1,107 +1,150 @@
--- What each answer leaves of the site.
-use Rattle.std.proofs.Common.{◌≡◌, ℕ, inl, inr, false, List, length, refl, ap, arith}
-use Rattle.std.proofs.lemmas.Bool.{cases_lt}
-use Rattle.std.proofs.lemmas.List.{get_or_past, length-map}
-use Rattle.std.specs.Prelude.{Option, Some, None, map}
-use Rattle.dr_base.specs.declared.side.Side.TheVariants.{A}
+-- What each answer may tell, and what it comes to.
+use Rattle.std.proofs.Common.{◌≡◌, ◌≢◌, ℕ, ◌≤◌, ◌<◌, ◌+◌, inl, inr, Bool, true, false, ◌&&◌, List, length, refl, sym, ◌∙◌, ap, subst, arith, map, get_or}
+use Rattle.std.proofs.lemmas.Bool.{cases_lt, lt-ltb, le-ltb, eqb-true}
+use Rattle.std.proofs.lemmas.List.{length-map}
+use Rattle.std.proofs.lemmas.List.Folds.{Any-from_list_any}
+use Rattle.std.specs.Prelude.{◌==◌, slice_index}
+use Rattle.std.specs.List.{list_any}
+use Rattle.std.specs.Prelude.{Option, Some, None, All, Contains, slice_get, nat_lt, if◌then◌else◌}
 use Rattle.dr_base.specs.declared.answer.Answer.{Answer}
-use Rattle.dr_base.specs.declared.answer.Answer.TheVariants.{BadWords, BadEstate, ReadFault, NoMemory, Refused}
-use Rattle.dr_outside.specs.declared.machine.Post.TheVariants.{Placeholder}
-use Rattle.dr_outside.specs.Arrays.{ArrayState}
-use Rattle.dr_outside.specs.Machines.{PortState, machine_at, no_machine}
-use Rattle.dr_outside.proofs.Drifts.{Drift-refl}
-use Rattle.dr_model.specs.Opening.{AreOpeningPairs, AreOpeningMachines}
-use Rattle.dr_model.specs.StartUp.{is_started}
-use Rattle.dr_desk.specs.declared.lines.Estate.{Estate}
-use Rattle.dr_desk.specs.declared.lines.LineFault.{LineFault}
-use Rattle.dr_desk.specs.declared.lines.LineFault.TheVariants.{BadLine, NoMemory as LinesNoMemory}
-use Rattle.dr_desk.specs.Lines.{IsEstate, LineCause}
-use Rattle.dr_desk.specs.Tests.{Site, site, AreInOrder, CallsNothing, KeepsPairs, KeepsMachines, PairsDone, MachinesDone, TestCause}
-use Rattle.dr_desk.specs.Calls.{Leaves, InputCause, Cause, AreWords, Received, fault_answer}
-use Rattle.dr_desk.proofs.LinesLaws.{same_estate}
-use Rattle.dr_desk.proofs.StorageLaws.{beside}
+use Rattle.dr_base.specs.declared.answer.Answer.TheVariants.{Done, Refused, ArrayFault, PortFault, NoMemory, Foreign, Groups as GroupsAnswer, Plan as PlanAnswer}
+use Rattle.dr_base.specs.declared.answer.Thing.TheVariants.{Pair as PairThing, Machine as MachineThing}
+use Rattle.dr_base.specs.declared.refusal.Refusal.{Refusal}
+use Rattle.dr_base.specs.declared.refusal.Refusal.TheVariants.{UnknownPlan, NotBuilt, NoSlot}
+use Rattle.dr_base.specs.declared.refusal.SlotKind.TheVariants.{Machines, Pairs}
+use Rattle.dr_base.specs.declared.group_fault.GroupFault.{GroupFault}
+use Rattle.dr_base.specs.declared.group_fault.GroupFault.TheVariants.{NotClosed, InTwo, NoMemory as NoMemoryForGroups}
+use Rattle.dr_base.specs.declared.plan_fault.PlanFault.{PlanFault}
+use Rattle.dr_base.specs.declared.plan_fault.PlanFault.TheVariants as plan_faults
+use Rattle.dr_inventory.specs.declared.estate.Machine.{Machine}
+use Rattle.dr_inventory.specs.declared.estate.Datastore.{Datastore}
+use Rattle.dr_inventory.specs.declared.estate.GroupRow.{GroupRow}
+use Rattle.dr_inventory.specs.declared.estate.Estate.{Estate}
+use Rattle.dr_plan.specs.declared.plan.PlanMachine.{PlanMachine}
+use Rattle.dr_plan.specs.declared.plan.Plan.{Plan}
+use Rattle.dr_outside.specs.Arrays.{is_listed}
+use Rattle.dr_outside.proofs.Listed.{place_of}
+use Rattle.dr_testing.specs.Placing.{is_planned}
+use Rattle.dr_testing.specs.Tests.{Site, CallsNothing, HasSlots, IsTestable, TestCause, RunCause}
+use Rattle.dr_inventory.specs.Sound.{IsSound}
+use Rattle.dr_plan.specs.Faults.{IsFirstOfRow}
+use Rattle.dr_setting.specs.declared.setting.SettingFault.{SettingFault}
+use Rattle.dr_setting.specs.declared.setting.SettingFault.TheVariants.{Groups as OfGroups, Plan as OfPlan, Unmapped as OfMaps, NoMemory as NoMemoryForSetting}
+use Rattle.dr_setting.specs.Settings.{HoldsNumbers, IsFirstFault}
+use Rattle.dr_setting.proofs.UniqueLaws.{fault_numbers}
+use Rattle.dr_report.specs.Conditions.{HidesNoAnswer, HoldsNumbersOf, IsShort}
+use Rattle.dr_base.specs.declared.answer.Thing.{Thing}
+use Rattle.dr_desk.specs.Calls.{Said, SaysOnly, OrLacked, VerdictCause, IsTest, plain}
+use Rattle.dr_desk.specs.Readings.{fault_answer}
+use Rattle.dr_desk.specs.Verdicts.{slots_verdict, IsPlainRefusal, Test}
 
--- the site of an array and ports of any kind
-module _ {R P : Type 0} (array_state : R → ArrayState) (port_state : P → PortState) (array : R) (ports : List P) where
-  -- before any run each machine is a placeholder at B, and so is what stands for a machine without a port
-  rests : AreOpeningMachines A (length ports) (machine_at port_state ports) → (i : ℕ) → (machine_at port_state ports i).post.b ≡ Placeholder
-  rests opening i = elim (cases_lt i (length ports)) [
-    | inl lt ↦ (opening i lt).there
-    | inr past ↦ ap (λ (m : PortState). m.post.b) (get_or_past (map port_state ports) i no_machine (omega (arith, past, length-map ports port_state)))
-  ]
+-- an answer that may be told, and whose text always finds room
+pub record IsTellable (estate : Estate) (answer : Answer) : Type 0 where
+  pub numbers : HoldsNumbersOf (Some estate) answer
+  pub plain_answer : HidesNoAnswer answer
+  pub short : IsShort answer
 
-  pub in_order_at_rest : (estate : Estate) → AreOpeningMachines A (length ports) (machine_at port_state ports) → AreInOrder estate (machine_at port_state ports)
-  in_order_at_rest estate opening = record {
-    stand = λ i l. inl (rests opening i);
-    order = λ i j li lj lt started. let stopped : is_started (machine_at port_state ports j).post.b ≡ false = ap is_started (rests opening j) in cc (started, stopped);
-  }
+-- a machine of a plan is the estate's
+planned_within : (estate : Estate) (plan : Plan) (machine : ℕ) → IsTestable estate plan → is_planned plan machine ≡ true → machine < length estate.machines
+planned_within estate plan machine t is =
+    let found = Any-from_list_any (λ (m : PlanMachine). m.machine == machine) plan.machines is in
+    let number : found.1.machine ≡ machine = eqb-true found.1.machine machine found.4 in
+    let within : (get_or plan.machines found.0 found.1).machine < length estate.machines = t.machines found.0 found.1 found.2 in
+    omega (arith, number, ap (λ (m : PlanMachine). m.machine) found.3, within)
 
-  calls_nothing : (s : Site) (answer : Answer) → CallsNothing s s answer
-  calls_nothing s (BadWords place) = refl
-  calls_nothing s ReadFault = refl
-  calls_nothing s (BadEstate line) = refl
-  calls_nothing s (Refused refusal) = refl
-  calls_nothing s NoMemory = refl
-  calls_nothing s _ = tt
+-- a pair of a plan is the estate's
+listed_within : (estate : Estate) (plan : Plan) (pair : ℕ) → IsTestable estate plan → is_listed plan.pairs pair ≡ true → pair < length estate.devices
+listed_within estate plan pair t is =
+    let found = place_of plan.pairs pair is in
+    let within : slice_index plan.pairs found.0 < length estate.devices = t.pairs.below found.0 found.1 in
+    omega (arith, found.2, within)
 
-  -- an answer that comes before anything is called
-  pub leaves_all : (array_tells port_tells : Type 0) (input : List ℕ) (answer : Answer)
-      → ((estate : Estate) → PairsDone estate (array_state array) (array_state array) answer)
-      → ((estate : Estate) → MachinesDone estate (machine_at port_state ports) (machine_at port_state ports) answer)
-      → Leaves array_tells port_tells input (site array_state port_state array ports) (site array_state port_state array ports) answer
-  leaves_all array_tells port_tells input answer pairs machines = record {
-    nothing = calls_nothing (site array_state port_state array ports) answer;
-    no_pairs = λ estate is none. refl;
-    protected = record { pairs = λ t o i. beside _ _ (Drift-refl _); machines = λ t i. record { protected = refl; kept = refl } };
-    others = λ estate is. record { pairs = λ t o i past. Drift-refl _; machines = λ t i past. refl };
-    order = λ estate is t opening. in_order_at_rest estate opening;
-    pairs = λ estate is t o. pairs estate;
-    machines = λ estate is t o. machines estate;
-  }
+-- each answer of a test may be told
+pub test_tells : (array_tells port_tells : Type 0) (estate : Estate) (plan : Plan) (old new : Site) (answer : Answer) → IsTestable estate plan → TestCause array_tells port_tells estate plan old new answer → IsTellable estate answer
+test_tells array_tells port_tells estate plan old new (Refused (NoSlot Machines have need)) t cause = record { numbers = tt; plain_answer = tt; short = tt }
+test_tells array_tells port_tells estate plan old new (Refused (NoSlot Pairs have need)) t cause = record { numbers = tt; plain_answer = tt; short = tt }
+test_tells array_tells port_tells estate plan old new NoMemory t cause = record { numbers = tt; plain_answer = tt; short = tt }
+test_tells array_tells port_tells estate plan old new (Done run) t cause = record { numbers = tt; plain_answer = tt; short = tt }
+test_tells array_tells port_tells estate plan old new (ArrayFault side) t cause = record { numbers = tt; plain_answer = tt; short = tt }
+test_tells array_tells port_tells estate plan old new (PortFault machine) t cause = record { numbers = omega (arith, length-map estate.machines (λ (m : Machine). m.name), planned_within estate plan machine t cause.1.planned); plain_answer = tt; short = tt }
+test_tells array_tells port_tells estate plan old new (Foreign (PairThing pair) wanted found) t cause = record { numbers = listed_within estate plan pair t cause.1.0.refused.listed; plain_answer = tt; short = tt }
+test_tells array_tells port_tells estate plan old new (Foreign (MachineThing machine) wanted found) t cause = record { numbers = omega (arith, length-map estate.machines (λ (m : Machine). m.name), planned_within estate plan machine t cause.1.planned); plain_answer = tt; short = tt }
+test_tells array_tells port_tells estate plan old new answer t cause = absurd cause.1
 
--- what the test of an estate leaves is what its input's answer leaves
-module _ (array_tells port_tells : Type 0) (input : List ℕ) (estate : Estate) (is_estate : IsEstate input estate) (old new : Site) (answer : Answer) where
-  pub leaves_of_test : CallsNothing old new answer
-      → (length estate.pairs ≡ 0 → new.array ≡ old.array)
-      → (array_tells → AreOpeningPairs A old.array → PairsDone estate old.array new.array answer)
-      → (array_tells → AreOpeningPairs A old.array → KeepsPairs estate old.array.pair new.array.pair)
-      → (port_tells → AreOpeningMachines A old.slots old.machine → MachinesDone estate old.machine new.machine answer)
-      → (port_tells → KeepsMachines estate old.machine new.machine)
-      → (port_tells → AreOpeningMachines A old.slots old.machine → AreInOrder estate new.machine)
-      → Leaves array_tells port_tells input old new answer
-  leaves_of_test nothing no_pairs pairs_done pairs_kept machines_done machines_kept order = record {
-    nothing = nothing;
-    no_pairs = λ other is. rw (same_estate input other estate is is_estate) no_pairs;
-    protected = record { pairs = λ t o. (pairs_kept t o).all; machines = λ t. (machines_kept t).all };
-    others = λ other is. rw (same_estate input other estate is is_estate) (record { pairs = λ t o. (pairs_kept t o).others; machines = λ t. (machines_kept t).others });
-    order = λ other is. rw (same_estate input other estate is is_estate) order;
-    pairs = λ other is. rw (same_estate input other estate is is_estate) pairs_done;
-    machines = λ other is. rw (same_estate input other estate is is_estate) machines_done;
-  }
+-- a test's answer, by what it came to
+module _ (array_tells port_tells : Type 0) (estate : Estate) (plan : Plan) (old new : Site) where
+  -- the site has room
+  room_verdict : HasSlots estate old → slots_verdict estate plan old ≡ Test plan
+  room_verdict slots =
+      let machines : nat_lt old.slots (length estate.machines) ≡ false = le-ltb old.slots (length estate.machines) slots.machines in
+      let pairs : nat_lt old.array.count (length estate.devices) ≡ false = le-ltb old.array.count (length estate.devices) slots.pairs in
+      rw (machines, pairs) refl
 
--- an input that is no estate
-pub fault_cause : (array_tells port_tells : Type 0) (input : List ℕ) (old new : Site) (fault : LineFault) → LineCause input fault → InputCause array_tells port_tells input None old new (fault_answer fault)
-fault_cause array_tells port_tells input old new (BadLine line) cause = cause
-fault_cause array_tells port_tells input old new LinesNoMemory cause = tt
+  -- an answer of a test that called the array
+  called : (said : Said) → HasSlots estate old → IsTest array_tells port_tells estate plan old new said → VerdictCause array_tells port_tells estate (slots_verdict estate plan old) old new said
+  called said slots is = subst (λ v. VerdictCause array_tells port_tells estate v old new said) (sym (room_verdict slots)) is
 
-pub fault_ends_before_pairs : (estate : Estate) (old new : ArrayState) (fault : LineFault) → PairsDone estate old new (fault_answer fault)
-fault_ends_before_pairs estate old new (BadLine line) = tt
-fault_ends_before_pairs estate old new LinesNoMemory = tt
+  pub slots_cause : (answer : Answer) (said : Said) → said ≡ plain (Some estate) answer → TestCause array_tells port_tells estate plan old new answer → CallsNothing old new answer
+      → (RunCause array_tells port_tells estate plan old new answer → IsTest array_tells port_tells estate plan old new said)
+      → OrLacked old new said (VerdictCause array_tells port_tells estate (slots_verdict estate plan old) old new said)
+  slots_cause (Refused (NoSlot Machines have need)) said told cause nothing test =
+      let few : nat_lt old.slots (length estate.machines) ≡ true = lt-ltb old.slots (length estate.machines) (omega (arith, cause.0, cause.1, cause.2)) in
+      inr (rw few (record { same = nothing; told = told ∙ ap (λ (r : Refusal). plain (Some estate) (Refused r)) (ap (λ h. NoSlot Machines h need) cause.0 ∙ ap (λ n. NoSlot Machines old.slots n) cause.1) }))
+  slots_cause (Refused (NoSlot Pairs have need)) said told cause nothing test =
+      let enough : nat_lt old.slots (length estate.machines) ≡ false = le-ltb old.slots (length estate.machines) cause.0 in
+      let few : nat_lt old.array.count (length estate.devices) ≡ true = lt-ltb old.array.count (length estate.devices) (omega (arith, cause.1, cause.2, cause.3)) in
+      inr (rw (enough, few) (record { same = nothing; told = told ∙ ap (λ (r : Refusal). plain (Some estate) (Refused r)) (ap (λ h. NoSlot Pairs h need) cause.1 ∙ ap (λ n. NoSlot Pairs old.array.count n) cause.2) }))
+  slots_cause NoMemory said told cause nothing test = inl (record { same = nothing; told = told })
+  slots_cause (Done run) said told cause nothing test = inr (called said cause.0 (test cause.1))
+  slots_cause (ArrayFault side) said told cause nothing test = inr (called said cause.0 (test cause.1))
+  slots_cause (PortFault machine) said told cause nothing test = inr (called said cause.0 (test cause.1))
+  slots_cause (Foreign thing wanted found) said told cause nothing test = inr (called said (slots_of thing cause) (test (rest_of thing cause)))
+    where
+      slots_of : (t : Thing) → TestCause array_tells port_tells estate plan old new (Foreign t wanted found) → HasSlots estate old
+      slots_of (PairThing k) c = c.0
+      slots_of (MachineThing k) c = c.0
 
-pub fault_ends_before_machines : (estate : Estate) (old new : ℕ → PortState) (fault : LineFault) → MachinesDone estate old new (fault_answer fault)
-fault_ends_before_machines estate old new (BadLine line) = tt
-fault_ends_before_machines estate old new LinesNoMemory = tt
+      rest_of : (t : Thing) → TestCause array_tells port_tells estate plan old new (Foreign t wanted found) → RunCause array_tells port_tells estate plan old new (Foreign t wanted found)
+      rest_of (PairThing k) c = c.1
+      rest_of (MachineThing k) c = c.1
+  slots_cause answer said told cause nothing test = absurd cause.1
 
--- the test of the estate that the input is
-pub test_cause : (array_tells port_tells : Type 0) (input : List ℕ) (estate : Estate) → IsEstate input estate → (old new : Site) (answer : Answer) → TestCause array_tells port_tells estate old new answer → InputCause array_tells port_tells input (Some estate) old new answer
-test_cause array_tells port_tells input estate is old new (BadWords place) cause = absurd cause.1
-test_cause array_tells port_tells input estate is old new ReadFault cause = absurd cause.1
-test_cause array_tells port_tells input estate is old new (BadEstate line) cause = absurd cause.1
-test_cause array_tells port_tells input estate is old new NoMemory cause = tt
-test_cause array_tells port_tells input estate is old new answer cause = (is, cause)
+-- a refusal that holds no number may be told
+pub refusal_tells : (estate : Estate) (refusal : Refusal) → IsPlainRefusal refusal → IsTellable estate (Refused refusal)
+refusal_tells estate (UnknownPlan name) is = record { numbers = tt; plain_answer = tt; short = tt }
+refusal_tells estate (NotBuilt name) is = record { numbers = tt; plain_answer = tt; short = tt }
+refusal_tells estate refusal is = absurd is
 
--- the answer to an input that was read, for words that ask for it
-pub words_cause : (array_tells port_tells : Type 0) (words : List (List ℕ)) → AreWords words → (source : Received) (input : List ℕ) (estate : Option Estate) (old new : Site) (answer : Answer) → InputCause array_tells port_tells input estate old new answer → Cause array_tells port_tells words source input estate old new answer
-words_cause array_tells port_tells words are source input estate old new (BadWords place) cause = absurd cause
-words_cause array_tells port_tells words are source input estate old new ReadFault cause = absurd cause
-words_cause array_tells port_tells words are source input estate old new answer cause = (are, cause)
+-- a faulty group may be told
+groups_tell : (estate : Estate) (fault : GroupFault) → HoldsNumbers estate (OfGroups fault) → HoldsNumbersOf (Some estate) (GroupsAnswer fault)
+groups_tell estate (NotClosed g a b) numbers = (
+  omega (arith, length-map estate.groups (λ (r : GroupRow). r.name), numbers.0),
+  omega (arith, length-map estate.datastores (λ (d : Datastore). d.name), numbers.1),
+  omega (arith, length-map estate.datastores (λ (d : Datastore). d.name), numbers.2),
+)
+groups_tell estate (InTwo d g h) numbers = (
+  omega (arith, length-map estate.datastores (λ (x : Datastore). x.name), numbers.0),
+  omega (arith, length-map estate.groups (λ (r : GroupRow). r.name), numbers.1),
+  omega (arith, length-map estate.groups (λ (r : GroupRow). r.name), numbers.2),
+)
+groups_tell estate NoMemoryForGroups numbers = tt
+
+-- a faulty plan may be told
+plans_tell : (estate : Estate) (name : List ℕ) (fault : PlanFault) → HoldsNumbers estate (OfPlan name fault) → HoldsNumbersOf (Some estate) (PlanAnswer name fault)
+plans_tell estate name (plan_faults.BadPriority machine number) numbers = omega (arith, length-map estate.machines (λ (m : Machine). m.name), numbers)
+plans_tell estate name (plan_faults.OtherPriority machine dependency) numbers = (
+  omega (arith, length-map estate.machines (λ (m : Machine). m.name), numbers.0),
+  omega (arith, length-map estate.machines (λ (m : Machine). m.name), numbers.1),
+)
+plans_tell estate name (plan_faults.Cycle machines) numbers = λ k d below. omega (arith, length-map estate.machines (λ (m : Machine). m.name), numbers k d below)
+plans_tell estate name fault numbers = tt
+
+-- a fault of an estate may be told
+pub fault_tells : (estate : Estate) (fault : SettingFault) → IsSound estate → IsFirstFault estate fault → HoldsNumbersOf (Some estate) (fault_answer fault) × HidesNoAnswer (fault_answer fault)
+fault_tells estate (OfGroups fault) sound is = (groups_tell estate fault (fault_numbers estate (OfGroups fault) sound is), is.is_fault)
+fault_tells estate (OfPlan name fault) sound is = (
+  plans_tell estate name fault (fault_numbers estate (OfPlan name fault) sound is),
+  λ none. (let row = is.is_first.faulty.is_first in subst (λ f. IsFirstOfRow estate is.members row.row f) none row.first_of_row),
+)
+fault_tells estate (OfMaps unmapped) sound is = (omega (arith, length-map estate.machines (λ (m : Machine). m.name), fault_numbers estate (OfMaps unmapped) sound is), tt)
+fault_tells estate NoMemoryForSetting sound is = (tt, tt)

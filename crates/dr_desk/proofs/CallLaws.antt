@@ -1,206 +1,294 @@
 -- What the answer of a call, with its cause, says of each promise of the call.
-use Rattle.std.proofs.Common.{◌≡◌, ℕ, ◌≤◌, ◌<◌, ◌⊎◌, inl, inr, true, false, List, length, sym, ◌∙◌, ap, subst, arith}
+use Rattle.std.proofs.Common.{◌≡◌, ℕ, ◌≤◌, ◌<◌, ◌⊎◌, inl, inr, true, false, List, length, refl, sym, ◌∙◌, ap, subst, arith, map}
+use Rattle.std.proofs.lemmas.Bool.{cases_lt}
+use Rattle.std.proofs.lemmas.List.{get_or_past, length-map}
 use Rattle.std.specs.Prelude.{Option, Some, None}
 use Rattle.dr_base.specs.Answers.{status_of}
-use Rattle.dr_base.specs.declared.side.Side.TheVariants.{B}
+use Rattle.dr_base.specs.declared.side.Side.TheVariants.{A, B}
 use Rattle.dr_base.specs.declared.answer.Answer.{Answer}
-use Rattle.dr_base.specs.declared.answer.Answer.TheVariants.{Done, BadWords, BadEstate, Refused, ArrayFault, PortFault, ReadFault, NoMemory, Foreign}
+use Rattle.dr_base.specs.declared.answer.Answer.TheVariants.{Done, BadWords, ArrayFault, PortFault, ReadFault, NoMemory, Foreign}
 use Rattle.dr_base.specs.declared.answer.Thing.TheVariants.{Pair, Machine}
-use Rattle.dr_base.specs.declared.refusal.Refusal.TheVariants.{NoSlot}
-use Rattle.dr_base.specs.declared.refusal.SlotKind.TheVariants.{Machines, Pairs}
-use Rattle.dr_desk.specs.declared.lines.Estate.{Estate}
-use Rattle.dr_desk.specs.Calls.{Answers, Received, Sent, AreWords, Cause, Gives, GivesPlain, IsSilent, LacksMemory, Refuses, NoneRose, IsTested, KeepsOthers, is_refusal}
-use Rattle.dr_desk.specs.Lines.{IsEstate, IsFirstBadLine}
+use Rattle.dr_base.specs.declared.command.Command.{Command}
+use Rattle.dr_base.specs.declared.command.Command.TheVariants.{Preview, Groups}
+use Rattle.dr_inventory.specs.declared.estate.Estate.{Estate}
+use Rattle.dr_plan.specs.declared.plan.Plan.{Plan}
+use Rattle.dr_outside.specs.declared.machine.Post.TheVariants.{Placeholder}
+use Rattle.dr_outside.specs.Arrays.{ArrayState}
+use Rattle.dr_outside.specs.Machines.{PortState, machine_at, no_machine}
+use Rattle.dr_outside.proofs.Drifts.{Drift-refl}
+use Rattle.dr_model.specs.StartUp.{is_started}
+use Rattle.dr_testing.specs.Tests.{Site, site, AreInOrder, AreTestedByGroup, AreTestedPairs, HasOpeningPairs, HasOpeningMachines, MachinesDone, PairsDone, RunCause}
+use Rattle.dr_testing.proofs.StorageLaws.{beside}
+use Rattle.dr_report.specs.Reports.{TellsGroups, preview_text_of}
+use Rattle.dr_desk.specs.Calls.{Answers, Received, Sent, Said, IsAnswer, IsTest, IsReadFailed, SaysOnly, IsShown, ShowsOnly, ReadingCause, VerdictCause, OrLacked, Gives, IsSilent, LacksMemory, Says, Shows, NoneRose, IsTested, KeepsProtected, KeepsOthers, ComesTo, AsksToTest, plain, shown, refusal_due, verdict_refusal, is_refusal}
+use Rattle.dr_desk.specs.Readings.{Reading, IsReading, NoEstate, Faulty, Sound}
 use Rattle.dr_desk.specs.Streams.{looked_at}
-use Rattle.dr_desk.specs.Tests.{Site, AreInOrder, AreTestedByGroup, AreTestedPairs, CallsNothing, MachinesDone, PairsDone, HasOpeningPairs, HasOpeningMachines, HasSlots}
-use Rattle.dr_desk.specs.Texts.{answer_text}
-use Rattle.dr_desk.specs.Words.{IsFirstBadWord}
-use Rattle.dr_desk.proofs.LinesLaws.{no_estate_with_bad_line, same_estate, same_bad_line}
-use Rattle.dr_desk.proofs.WordsLaws.{no_bad_word, one_bad_word}
+use Rattle.dr_desk.specs.Verdicts.{Verdict, Refuse, ShowGroups, ShowPlan, Test, verdict, preview_verdict, plan_named}
+use Rattle.dr_desk.specs.Words.{IsCommand, IsFirstBadWord, is_report}
+use Rattle.dr_desk.proofs.ReadingLaws.{one_reading}
+use Rattle.dr_desk.proofs.WordsLaws.{no_bad_word, one_bad_word, one_command}
+
+-- a machine where there is none stands as before any run
+module _ {R P : Type 0} (array_state : R → ArrayState) (port_state : P → PortState) (array : R) (ports : List P) where
+  rests : HasOpeningMachines (site array_state port_state array ports) → (i : ℕ) → (machine_at port_state ports i).post.b ≡ Placeholder
+  rests opening i = elim (cases_lt i (length ports)) [
+    | inl lt ↦ (opening i lt).there
+    | inr past ↦ ap (λ (m : PortState). m.post.b) (get_or_past (map port_state ports) i no_machine (omega (arith, past, length-map ports port_state)))
+  ]
+
+  -- before any run machines are in order
+  pub in_order_at_rest : (estate : Estate) (plan : Plan) → HasOpeningMachines (site array_state port_state array ports) → AreInOrder estate plan (machine_at port_state ports)
+  in_order_at_rest estate plan opening = record {
+    stand = λ i planned. inl (rests opening i);
+    order = record {
+      dependencies = λ m k listed started named. let stopped : is_started (machine_at port_state ports m.machine).post.b ≡ false = ap is_started (rests opening m.machine) in cc (started, stopped);
+      priorities = λ earlier later first second below started. let stopped : is_started (machine_at port_state ports later.machine).post.b ≡ false = ap is_started (rests opening later.machine) in cc (started, stopped);
+    };
+  }
+
+-- the said refusal is the one that is due
+due_of_verdict : (array_tells port_tells : Type 0) (estate : Estate) (v : Verdict) (old new : Site) (said due : Said) → verdict_refusal estate v ≡ Some due → VerdictCause array_tells port_tells estate v old new said → said ≡ due
+due_of_verdict array_tells port_tells estate (Refuse refusal) old new said due is cause = cause.told ∙ ap (λ o. elim o [ None ↦ due | Some s ↦ s ]) is
+due_of_verdict array_tells port_tells estate ShowGroups old new said due is cause = cc is
+due_of_verdict array_tells port_tells estate (ShowPlan plan) old new said due is cause = cc is
+due_of_verdict array_tells port_tells estate (Test plan) old new said due is cause = cc is
+
+due_of_reading : (array_tells port_tells : Type 0) (command : Command) (reading : Reading) (old new : Site) (said due : Said) → refusal_due reading old command ≡ Some due → ReadingCause array_tells port_tells command reading old new said → said ≡ due
+due_of_reading array_tells port_tells command (NoEstate fault) old new said due is cause = cause.told ∙ ap (λ o. elim o [ None ↦ due | Some s ↦ s ]) is
+due_of_reading array_tells port_tells command (Faulty estate fault) old new said due is cause = cause.told ∙ ap (λ o. elim o [ None ↦ due | Some s ↦ s ]) is
+due_of_reading array_tells port_tells command (Sound estate setting) old new said due is cause = due_of_verdict array_tells port_tells estate (verdict estate setting old command) old new said due is cause
+
+-- a site that wasn't touched keeps its protected side
+pub kept_at_rest : (array_tells port_tells : Type 0) (old new : Site) → new ≡ old → KeepsProtected array_tells port_tells old new
+kept_at_rest array_tells port_tells old new same = rw same (record {
+  pairs = λ t o i. beside _ _ (Drift-refl _);
+  machines = λ t i. record { protected = refl; kept = refl };
+})
+
+pub others_at_rest : (array_tells port_tells : Type 0) (plan : Plan) (old new : Site) → new ≡ old → KeepsOthers array_tells port_tells plan old new
+others_at_rest array_tells port_tells plan old new same = rw same (record { pairs = λ t o i out. Drift-refl _; machines = λ t i out. refl })
+
+-- what a verdict leaves, where it isn't a test
+same_by_verdict : (array_tells port_tells : Type 0) (estate : Estate) (v : Verdict) (old new : Site) (said : Said) → VerdictCause array_tells port_tells estate v old new said → (new ≡ old) ⊎ ((plan : Plan) × IsTest array_tells port_tells estate plan old new said)
+same_by_verdict array_tells port_tells estate (Refuse refusal) old new said cause = inl cause.same
+same_by_verdict array_tells port_tells estate ShowGroups old new said cause = inl cause.same
+same_by_verdict array_tells port_tells estate (ShowPlan plan) old new said cause = inl cause.same
+same_by_verdict array_tells port_tells estate (Test plan) old new said cause = inr (plan, cause)
+
+-- a preview touches nothing
+same_by_preview : (array_tells port_tells : Type 0) (estate : Estate) (name : List ℕ) (found : Option Plan) (old new : Site) (said : Said) → VerdictCause array_tells port_tells estate (preview_verdict name found) old new said → new ≡ old
+same_by_preview array_tells port_tells estate name None old new said cause = cause.same
+same_by_preview array_tells port_tells estate name (Some plan) old new said cause = cause.same
+
+-- nor does any report
+same_by_report : (array_tells port_tells : Type 0) (command : Command) (reading : Reading) (old new : Site) (said : Said) → is_report command ≡ true → ReadingCause array_tells port_tells command reading old new said → new ≡ old
+same_by_report array_tells port_tells command (NoEstate fault) old new said is cause = cause.same
+same_by_report array_tells port_tells command (Faulty estate fault) old new said is cause = cause.same
+same_by_report array_tells port_tells Groups (Sound estate setting) old new said is cause = cause.same
+same_by_report array_tells port_tells (Preview name) (Sound estate setting) old new said is cause = same_by_preview array_tells port_tells estate name (plan_named setting name) old new said cause
+same_by_report array_tells port_tells command (Sound estate setting) old new said is cause = cc is
 
 module _ (source_tells sink_tells array_tells port_tells : Type 0) (words : List (List ℕ)) (source : Received) (old new : Site) (sink : Sent) (status : ℕ) (marks : List ℕ) (a : Answers source_tells sink_tells array_tells port_tells words source old new sink status marks) where
-  module _ (place : ℕ) (bad : IsFirstBadWord words place) (input : List ℕ) where
-    go_words : (answer : Answer) (estate : Option Estate) (text : List ℕ) → Cause array_tells port_tells words source input estate old new answer → text ≡ answer_text estate answer → Gives sink_tells sink status answer text → GivesPlain sink_tells sink status (BadWords place)
-    go_words (BadWords p) estate text cause is gives = subst (λ q. GivesPlain sink_tells sink status (BadWords q)) (one_bad_word words p place cause bad) (rw is at gives)
-    go_words ReadFault estate text cause is gives = absurd (no_bad_word words cause.0.0 place cause.0.1 bad)
-    go_words answer estate text cause is gives = absurd (no_bad_word words cause.0.0 place cause.0.1 bad)
-
-  module _ (are : AreWords words) (line : ℕ) (input : List ℕ) (bad : IsFirstBadLine input line) where
-    go_lines : (answer : Answer) (estate : Option Estate) (text : List ℕ) → Cause array_tells port_tells words source input estate old new answer → text ≡ answer_text estate answer → Gives sink_tells sink status answer text → Refuses sink_tells source sink status (BadEstate line)
-    go_lines (BadWords p) estate text cause is gives = absurd (no_bad_word words are.0 p are.1 cause)
-    go_lines ReadFault estate text cause is gives = inr (inl (cause.1, rw is at gives))
-    go_lines (BadEstate l) estate text cause is gives = inl (subst (λ k. GivesPlain sink_tells sink status (BadEstate k)) (same_bad_line input l line cause.1 bad) (rw is at gives))
-    go_lines NoMemory estate text cause is gives = inr (inr (inl (rw is at gives)))
-    go_lines answer None text cause is gives = absurd cause.1
-    go_lines answer (Some e) text cause is gives = absurd (no_estate_with_bad_line input e line cause.1.0 bad)
-
-  module _ (are : AreWords words) (input : List ℕ) (the_estate : Estate) (is_estate : IsEstate input the_estate) where
-    -- the estate that was read is this one
-    same : (e : Estate) → IsEstate input e → e ≡ the_estate
-    same e it = same_estate input e the_estate it is_estate
-
-    no_bad_line : (l : ℕ) → IsFirstBadLine input l → ⊥
-    no_bad_line l bad = no_estate_with_bad_line input the_estate l is_estate bad
-
-    module _ (few : old.slots < length the_estate.machines) where
-      many : HasSlots the_estate old → ⊥
-      many slots = absurd (omega (arith, slots.machines, few))
-
-      go_machines : (answer : Answer) (estate : Option Estate) (text : List ℕ) → Cause array_tells port_tells words source input estate old new answer → text ≡ answer_text estate answer → Gives sink_tells sink status answer text → Refuses sink_tells source sink status (Refused (NoSlot Machines old.slots (length the_estate.machines)))
-      go_machines (BadWords p) estate text cause is gives = absurd (no_bad_word words are.0 p are.1 cause)
-      go_machines ReadFault estate text cause is gives = inr (inl (cause.1, rw is at gives))
-      go_machines (BadEstate l) estate text cause is gives = absurd (no_bad_line l cause.1)
-      go_machines NoMemory estate text cause is gives = inr (inr (inl (rw is at gives)))
-      go_machines answer None text cause is gives = absurd cause.1
-      go_machines (Refused (NoSlot Machines have need)) (Some e) text cause is gives =
-          let need_is : need ≡ length the_estate.machines = cause.1.1.1 ∙ ap (λ (x : Estate). length x.machines) (same e cause.1.0) in
-          inl (rw (← cause.1.1.0, ← need_is) (rw is at gives))
-      go_machines (Refused (NoSlot Pairs have need)) (Some e) text cause is gives =
-          absurd (omega (arith, few, cause.1.1.0, ap (λ (x : Estate). length x.machines) (same e cause.1.0)))
-      go_machines answer (Some e) text cause is gives = absurd (many (subst (λ x. HasSlots x old) (same e cause.1.0) cause.1.1.0))
-
-    module _ (enough : length the_estate.machines ≤ old.slots) (few : old.array.count < length the_estate.pairs) where
-      many_pairs : HasSlots the_estate old → ⊥
-      many_pairs slots = absurd (omega (arith, slots.pairs, few))
-
-      go_pairs : (answer : Answer) (estate : Option Estate) (text : List ℕ) → Cause array_tells port_tells words source input estate old new answer → text ≡ answer_text estate answer → Gives sink_tells sink status answer text → Refuses sink_tells source sink status (Refused (NoSlot Pairs old.array.count (length the_estate.pairs)))
-      go_pairs (BadWords p) estate text cause is gives = absurd (no_bad_word words are.0 p are.1 cause)
-      go_pairs ReadFault estate text cause is gives = inr (inl (cause.1, rw is at gives))
-      go_pairs (BadEstate l) estate text cause is gives = absurd (no_bad_line l cause.1)
-      go_pairs NoMemory estate text cause is gives = inr (inr (inl (rw is at gives)))
-      go_pairs answer None text cause is gives = absurd cause.1
-      go_pairs (Refused (NoSlot Machines have need)) (Some e) text cause is gives =
-          absurd (omega (arith, enough, cause.1.1.0, cause.1.1.1, cause.1.1.2, ap (λ (x : Estate). length x.machines) (same e cause.1.0)))
-      go_pairs (Refused (NoSlot Pairs have need)) (Some e) text cause is gives =
-          let need_is : need ≡ length the_estate.pairs = cause.1.1.2 ∙ ap (λ (x : Estate). length x.pairs) (same e cause.1.0) in
-          inl (rw (← cause.1.1.1, ← need_is) (rw is at gives))
-      go_pairs answer (Some e) text cause is gives = absurd (many_pairs (subst (λ x. HasSlots x old) (same e cause.1.0) cause.1.1.0))
-
-    module _ (array_told : array_tells) (ports_told : port_tells) (slots : HasSlots the_estate old) (pairs : HasOpeningPairs old) (machines : HasOpeningMachines old) (none : NoneRose source old new sink) where
-      go_complete : (answer : Answer) (estate : Option Estate) (text : List ℕ) → Cause array_tells port_tells words source input estate old new answer → text ≡ answer_text estate answer → Gives sink_tells sink status answer text → GivesPlain sink_tells sink status (Done 1) ⊎ LacksMemory sink_tells sink status
-      go_complete (BadWords w) estate text cause is gives = absurd (no_bad_word words are.0 w are.1 cause)
-      go_complete ReadFault estate text cause is gives = absurd (none.source_faults cause.1)
-      go_complete (BadEstate l) estate text cause is gives = absurd (no_bad_line l cause.1)
-      go_complete NoMemory estate text cause is gives = inr (inl (rw is at gives))
-      go_complete answer None text cause is gives = absurd cause.1
-      go_complete (Refused (NoSlot Machines have need)) (Some e) text cause is gives =
-          absurd (omega (arith, slots.machines, cause.1.1.0, cause.1.1.1, cause.1.1.2, ap (λ (x : Estate). length x.machines) (same e cause.1.0)))
-      go_complete (Refused (NoSlot Pairs have need)) (Some e) text cause is gives =
-          absurd (omega (arith, slots.pairs, cause.1.1.1, cause.1.1.2, cause.1.1.3, ap (λ (x : Estate). length x.pairs) (same e cause.1.0)))
-      go_complete (Done run) (Some e) text cause is gives = inl (subst (λ r. GivesPlain sink_tells sink status (Done r)) cause.1.1.1 (rw is at gives))
-      go_complete (ArrayFault side) (Some e) text cause is gives = absurd (none.array_faults side cause.1.1.1.0)
-      go_complete (PortFault m) (Some e) text cause is gives = absurd (none.port_faults m B cause.1.1.1.failed.rose)
-      go_complete (Foreign (Pair k) wanted found) (Some e) text cause is gives = absurd (cause.1.1.1.0.foreign array_told pairs)
-      go_complete (Foreign (Machine k) wanted found) (Some e) text cause is gives = absurd (cause.1.1.1.foreign ports_told machines)
-      go_complete answer (Some e) text cause is gives = absurd cause.1.1.1
-
-  -- the input that was read
-  input_is : source_tells → a.is.input ≡ looked_at source.before
-  input_is t = a.is.read t
-
-  pub bad_words : (place : ℕ) → IsFirstBadWord words place → GivesPlain sink_tells sink status (BadWords place) ⊎ IsSilent sink_tells sink status
-  bad_words place bad = inl (go_words place bad a.is.input a.answer a.is.estate a.text a.is.cause a.is.is_text a.gives)
-
-  pub bad_estate : source_tells → AreWords words → (line : ℕ) → IsFirstBadLine (looked_at source.before) line → Refuses sink_tells source sink status (BadEstate line)
-  bad_estate t are line bad = go_lines are line a.is.input (subst (λ b. IsFirstBadLine b line) (sym (input_is t)) bad) a.answer a.is.estate a.text a.is.cause a.is.is_text a.gives
-
-  module _ (t : source_tells) (estate : Estate) (is_estate : IsEstate (looked_at source.before) estate) where
-    is_read : IsEstate a.is.input estate
-    is_read = subst (λ b. IsEstate b estate) (sym (input_is t)) is_estate
-
-    pub no_slot_for_machines : AreWords words → old.slots < length estate.machines → Refuses sink_tells source sink status (Refused (NoSlot Machines old.slots (length estate.machines)))
-    no_slot_for_machines are few = go_machines are a.is.input estate is_read few a.answer a.is.estate a.text a.is.cause a.is.is_text a.gives
-
-    pub no_slot_for_pairs : AreWords words → length estate.machines ≤ old.slots → old.array.count < length estate.pairs → Refuses sink_tells source sink status (Refused (NoSlot Pairs old.array.count (length estate.pairs)))
-    no_slot_for_pairs are enough few = go_pairs are a.is.input estate is_read enough few a.answer a.is.estate a.text a.is.cause a.is.is_text a.gives
-
-    pub complete : array_tells → port_tells → AreWords words → HasSlots estate old → HasOpeningPairs old → HasOpeningMachines old → NoneRose source old new sink → GivesPlain sink_tells sink status (Done 1) ⊎ LacksMemory sink_tells sink status
-    complete at pt are slots pairs machines none = go_complete are a.is.input estate is_read at pt slots pairs machines none a.answer a.is.estate a.text a.is.cause a.is.is_text a.gives
-
-    -- a test that is done: no other answer has the status 0
-    done_by : (answer : Answer) → (e : Option Estate) → Cause array_tells port_tells words source a.is.input e old new answer → (array_tells → HasOpeningPairs old → PairsDone estate old.array new.array answer) → (port_tells → HasOpeningMachines old → MachinesDone estate old.machine new.machine answer) → status_of answer ≡ 0 → IsTested array_tells port_tells estate old new
-    done_by (Done run) e cause pairs machines zero = record { pairs = pairs; machines = machines }
-    done_by (BadWords p) e cause pairs machines zero = cc zero
-    done_by ReadFault e cause pairs machines zero = cc zero
-    done_by (BadEstate l) e cause pairs machines zero = cc zero
-    done_by NoMemory e cause pairs machines zero = cc zero
-    done_by (Refused r) e cause pairs machines zero = cc zero
-    done_by (ArrayFault side) e cause pairs machines zero = cc zero
-    done_by (PortFault m) e cause pairs machines zero = cc zero
-    done_by (Foreign k wanted found) e cause pairs machines zero = cc zero
-    done_by answer None cause pairs machines zero = absurd cause.1
-    done_by answer (Some e) cause pairs machines zero = absurd cause.1.1.1
-
-    pub done : status ≡ 0 → IsTested array_tells port_tells estate old new
-    done zero = elim a.gives [
-      | inl told ↦ done_by a.answer a.is.estate a.is.cause (a.is.leaves.pairs estate is_read) (a.is.leaves.machines estate is_read) (sym told.status_is ∙ zero)
-      | inr cut ↦ absurd (omega (arith, cut.status_is, zero))
+  -- the site was not touched, or a plan was tested
+  untouched_or_tested : (new ≡ old) ⊎ ((estate : Estate) × (plan : Plan) × IsTest array_tells port_tells estate plan old new a.said)
+  untouched_or_tested = elim a.is [
+    | inl bad ↦ inl bad.says.same
+    | inr is ↦ elim is.cause [
+      | inl failed ↦ inl failed.says.same
+      | inr rest ↦ elim rest [
+        | inl lacked ↦ inl lacked.same
+        | inr input ↦ by_reading is.command input.reading input.cause
+      ]
     ]
+  ]
+    where
+      by_reading : (command : Command) (reading : Reading) → ReadingCause array_tells port_tells command reading old new a.said → (new ≡ old) ⊎ ((estate : Estate) × (plan : Plan) × IsTest array_tells port_tells estate plan old new a.said)
+      by_reading command (NoEstate fault) cause = inl cause.same
+      by_reading command (Faulty estate fault) cause = inl cause.same
+      by_reading command (Sound estate setting) cause = elim (same_by_verdict array_tells port_tells estate (verdict estate setting old command) old new a.said cause) [ inl same ↦ inl same | inr tested ↦ inr (estate, tested.0, tested.1) ]
 
-    -- a machine that failed: no other answer has the status 6
-    snapshots_by : (answer : Answer) → (e : Option Estate) → Cause array_tells port_tells words source a.is.input e old new answer → PairsDone estate old.array new.array answer → status_of answer ≡ 6 → AreTestedPairs estate old.array.pair new.array.pair
-    snapshots_by (PortFault m) e cause pairs six = pairs
-    snapshots_by (Done run) e cause pairs six = cc six
-    snapshots_by (BadWords p) e cause pairs six = cc six
-    snapshots_by ReadFault e cause pairs six = cc six
-    snapshots_by (BadEstate l) e cause pairs six = cc six
-    snapshots_by NoMemory e cause pairs six = cc six
-    snapshots_by (Refused r) e cause pairs six = cc six
-    snapshots_by (ArrayFault side) e cause pairs six = cc six
-    snapshots_by (Foreign k wanted found) e cause pairs six = cc six
-    snapshots_by answer None cause pairs six = absurd cause.1
-    snapshots_by answer (Some e) cause pairs six = absurd cause.1.1.1
+  pub bad_words : (place : ℕ) → IsFirstBadWord words place → Gives sink_tells sink status (plain None (BadWords place)) ⊎ IsSilent sink_tells sink status
+  bad_words place bad = elim a.is [
+    | inl is ↦ inl (subst (Gives sink_tells sink status) (is.says.told ∙ ap (λ p. plain None (BadWords p)) (one_bad_word words is.place place is.bad bad)) a.gives)
+    | inr is ↦ absurd (no_bad_word words is.command place is.is_command bad)
+  ]
 
-    pub snapshots_first : array_tells → HasOpeningPairs old → status ≡ 6 → AreTestedPairs estate old.array.pair new.array.pair
-    snapshots_first t opening six = elim a.gives [
-      | inl told ↦ snapshots_by a.answer a.is.estate a.is.cause (a.is.leaves.pairs estate is_read t opening) (sym told.status_is ∙ six)
-      | inr cut ↦ absurd (omega (arith, cut.status_is, six))
-    ]
+  pub protected_side : KeepsProtected array_tells port_tells old new
+  protected_side = elim untouched_or_tested [
+    | inl same ↦ kept_at_rest array_tells port_tells old new same
+    | inr tested ↦ record { pairs = λ t o. (tested.2.pairs_kept t o).all; machines = λ t. (tested.2.machines_kept t).all }
+  ]
 
-    -- an array that failed: no other answer has the status 5
-    groups_by : (answer : Answer) → (e : Option Estate) → Cause array_tells port_tells words source a.is.input e old new answer → PairsDone estate old.array new.array answer → status_of answer ≡ 5 → AreTestedByGroup estate old.array.group old.array.pair new.array.pair
-    groups_by (ArrayFault side) e cause pairs five = pairs
-    groups_by (Done run) e cause pairs five = cc five
-    groups_by (BadWords p) e cause pairs five = cc five
-    groups_by ReadFault e cause pairs five = cc five
-    groups_by (BadEstate l) e cause pairs five = cc five
-    groups_by NoMemory e cause pairs five = cc five
-    groups_by (Refused r) e cause pairs five = cc five
-    groups_by (PortFault m) e cause pairs five = cc five
-    groups_by (Foreign k wanted found) e cause pairs five = cc five
-    groups_by answer None cause pairs five = absurd cause.1
-    groups_by answer (Some e) cause pairs five = absurd cause.1.1.1
-
-    pub whole_groups : array_tells → HasOpeningPairs old → status ≡ 5 → AreTestedByGroup estate old.array.group old.array.pair new.array.pair
-    whole_groups t opening five = elim a.gives [
-      | inl told ↦ groups_by a.answer a.is.estate a.is.cause (a.is.leaves.pairs estate is_read t opening) (sym told.status_is ∙ five)
-      | inr cut ↦ absurd (omega (arith, cut.status_is, five))
-    ]
-
-    pub no_pairs : length estate.pairs ≡ 0 → new.array ≡ old.array
-    no_pairs = a.is.leaves.no_pairs estate is_read
-
-    pub in_order : port_tells → HasOpeningMachines old → AreInOrder estate new.machine
-    in_order = a.is.leaves.order estate is_read
-
-    pub others : KeepsOthers array_tells port_tells estate old new
-    others = a.is.leaves.others estate is_read
-
-  untouched_by : (answer : Answer) → (e : Option Estate) → Cause array_tells port_tells words source a.is.input e old new answer → CallsNothing old new answer → is_refusal (status_of answer) ≡ true → new ≡ old
-  untouched_by (BadWords p) e cause nothing refusal = nothing
-  untouched_by ReadFault e cause nothing refusal = nothing
-  untouched_by (BadEstate l) e cause nothing refusal = nothing
-  untouched_by NoMemory e cause nothing refusal = nothing
-  untouched_by (Refused r) e cause nothing refusal = nothing
-  untouched_by (Done run) e cause nothing refusal = cc refusal
-  untouched_by (ArrayFault side) e cause nothing refusal = cc refusal
-  untouched_by (PortFault m) e cause nothing refusal = cc refusal
-  untouched_by (Foreign k wanted found) e cause nothing refusal = cc refusal
-  untouched_by answer None cause nothing refusal = absurd cause.1
-  untouched_by answer (Some e) cause nothing refusal = absurd cause.1.1.1
+  -- the statuses of a test that called the array
+  not_refused : (estate : Estate) (plan : Plan) (answer : Answer) → RunCause array_tells port_tells estate plan old new answer → is_refusal (status_of answer) ≡ true → ⊥
+  not_refused estate plan (Done run) cause is = cc is
+  not_refused estate plan (ArrayFault side) cause is = cc is
+  not_refused estate plan (PortFault machine) cause is = cc is
+  not_refused estate plan (Foreign thing wanted found) cause is = cc is
+  not_refused estate plan answer cause is = absurd cause
 
   pub untouched : is_refusal status ≡ true → new ≡ old
-  untouched refusal = elim a.gives [
-    | inl told ↦ untouched_by a.answer a.is.estate a.is.cause a.is.leaves.nothing (ap is_refusal (sym told.status_is) ∙ refusal)
-    | inr cut ↦ let cut_off : is_refusal status ≡ false = ap is_refusal cut.status_is in cc (refusal, cut_off)
+  untouched is = elim untouched_or_tested [
+    | inl same ↦ same
+    | inr tested ↦ elim a.gives [
+      | inl told ↦ absurd (not_refused tested.0 tested.1 a.said.answer tested.2.cause (subst (λ n. is_refusal n ≡ true) told.status_is is))
+      | inr cut ↦ (let ten : is_refusal 10 ≡ true = subst (λ n. is_refusal n ≡ true) cut.status_is is in cc ten)
+    ]
   ]
+
+  pub reports : (command : Command) → IsCommand words command → is_report command ≡ true → new ≡ old
+  reports command is_command report = elim a.is [
+    | inl bad ↦ bad.says.same
+    | inr is ↦ elim is.cause [
+      | inl failed ↦ failed.says.same
+      | inr rest ↦ elim rest [
+        | inl lacked ↦ lacked.same
+        | inr input ↦ same_by_report array_tells port_tells is.command input.reading old new a.said (ap is_report (one_command words is.command command is.is_command is_command) ∙ report) input.cause
+      ]
+    ]
+  ]
+
+  -- what was said to this command about this input
+  module _ (t : source_tells) (command : Command) (is_command : IsCommand words command) (reading : Reading) (is_reading : IsReading (looked_at source.before) reading) where
+    located : IsReadFailed source old new a.said ⊎ OrLacked old new a.said (ReadingCause array_tells port_tells command reading old new a.said)
+    located = elim a.is [
+      | inl bad ↦ absurd (no_bad_word words command bad.place is_command bad.bad)
+      | inr is ↦ elim is.cause [
+        | inl failed ↦ inl failed
+        | inr rest ↦ elim rest [
+          | inl lacked ↦ inr (inl lacked)
+          | inr input ↦
+              let same_command : is.command ≡ command = one_command words is.command command is.is_command is_command in
+              let same_reading : input.reading ≡ reading = one_reading (looked_at source.before) input.reading reading (subst (λ i. IsReading i input.reading) (is.read t) input.is_reading) is_reading in
+              inr (inr (subst (λ c. ReadingCause array_tells port_tells c reading old new a.said) same_command (subst (λ r. ReadingCause array_tells port_tells is.command r old new a.said) same_reading input.cause)))
+        ]
+      ]
+    ]
+
+    -- unless a read failed or memory was wanting, this was said
+    pub refused : (due : Said) → refusal_due reading old command ≡ Some due → Says sink_tells source sink status due
+    refused due is = elim located [
+      | inl failed ↦ inr (inl (failed.rose, subst (Gives sink_tells sink status) failed.says.told a.gives))
+      | inr rest ↦ elim rest [
+        | inl lacked ↦ inr (inr (inl (subst (Gives sink_tells sink status) lacked.told a.gives)))
+        | inr cause ↦ inl (subst (Gives sink_tells sink status) (due_of_reading array_tells port_tells command reading old new a.said due is cause) a.gives)
+      ]
+    ]
+
+  -- what was said where the words and the input come to this
+  module _ (t : source_tells) (estate : Estate) (wanted : Verdict) (comes : ComesTo words (looked_at source.before) old estate wanted) where
+    pub come : IsReadFailed source old new a.said ⊎ OrLacked old new a.said (VerdictCause array_tells port_tells estate wanted old new a.said)
+    come = elim (located t comes.command comes.is_command (Sound estate comes.setting) comes.is_reading) [
+      | inl failed ↦ inl failed
+      | inr rest ↦ elim rest [
+        | inl lacked ↦ inr (inl lacked)
+        | inr cause ↦ inr (inr (subst (λ v. VerdictCause array_tells port_tells estate v old new a.said) comes.verdict_is cause))
+      ]
+    ]
+
+    showing : (Tells : List ℕ → Type 0) → (VerdictCause array_tells port_tells estate wanted old new a.said → ShowsOnly old new a.said Tells) → Shows sink_tells source sink status Tells
+    showing Tells shows = elim come [
+      | inl failed ↦ inr (inl (failed.rose, subst (Gives sink_tells sink status) failed.says.told a.gives))
+      | inr rest ↦ elim rest [
+        | inl lacked ↦ inr (inr (inl (subst (Gives sink_tells sink status) lacked.told a.gives)))
+        | inr cause ↦ (let is = shows cause in inl (is.is_shown.0, is.is_shown.1, subst (Gives sink_tells sink status) is.is_shown.2 a.gives))
+      ]
+    ]
+
+  pub groups_shown : source_tells → (estate : Estate) → ComesTo words (looked_at source.before) old estate ShowGroups → Shows sink_tells source sink status (TellsGroups estate)
+  groups_shown t estate comes = showing t estate ShowGroups comes (TellsGroups estate) (λ cause. cause)
+
+  pub plan_shown : source_tells → (estate : Estate) (plan : Plan) → ComesTo words (looked_at source.before) old estate (ShowPlan plan) → Shows sink_tells source sink status (λ report. report ≡ preview_text_of estate plan)
+  plan_shown t estate plan comes = showing t estate (ShowPlan plan) comes (λ report. report ≡ preview_text_of estate plan) (λ cause. cause)
+
+  -- a test was asked for
+  module _ (t : source_tells) (estate : Estate) (plan : Plan) (asks : AsksToTest words (looked_at source.before) old estate plan) where
+    -- nothing was called, or the plan was tested
+    came : (new ≡ old) ⊎ IsTest array_tells port_tells estate plan old new a.said
+    came = elim (come t estate (Test plan) asks) [
+      | inl failed ↦ inl failed.says.same
+      | inr rest ↦ elim rest [ inl lacked ↦ inl lacked.same | inr test ↦ inr test ]
+    ]
+
+    pub others : KeepsOthers array_tells port_tells plan old new
+    others = elim came [
+      | inl same ↦ others_at_rest array_tells port_tells plan old new same
+      | inr test ↦ record { pairs = λ at o. (test.pairs_kept at o).others; machines = λ pt. (test.machines_kept pt).others }
+    ]
+
+    pub no_pairs : length plan.pairs ≡ 0 → new.array ≡ old.array
+    no_pairs none = elim came [ inl same ↦ ap (λ (s : Site). s.array) same | inr test ↦ test.no_pairs none ]
+
+    pub in_order : AreInOrder estate plan old.machine → port_tells → HasOpeningMachines old → AreInOrder estate plan new.machine
+    in_order rest pt opening = elim came [
+      | inl same ↦ rw same rest
+      | inr test ↦ test.order pt opening
+    ]
+
+    -- at these statuses the plan was tested
+    tested_at : (n : ℕ) → status ≡ n → (n ≡ 9 → ⊥) → (n ≡ 10 → ⊥) → (n ≡ 11 → ⊥) → IsTest array_tells port_tells estate plan old new a.said × (status_of a.said.answer ≡ n)
+    tested_at n is nine ten eleven = elim a.gives [
+      | inr cut ↦ absurd (ten (sym is ∙ cut.status_is))
+      | inl told ↦ elim (come t estate (Test plan) asks) [
+        | inl failed ↦ absurd (nine (sym is ∙ told.status_is ∙ ap (λ (s : Said). status_of s.answer) failed.says.told))
+        | inr rest ↦ elim rest [
+          | inl lacked ↦ absurd (eleven (sym is ∙ told.status_is ∙ ap (λ (s : Said). status_of s.answer) lacked.told))
+          | inr test ↦ (test, sym told.status_is ∙ is)
+        ]
+      ]
+    ]
+
+    done_by : (answer : Answer) → RunCause array_tells port_tells estate plan old new answer → (array_tells → HasOpeningPairs old → PairsDone plan old.array new.array answer) → (port_tells → HasOpeningMachines old → MachinesDone estate plan old.machine new.machine answer) → status_of answer ≡ 0 → IsTested array_tells port_tells estate plan old new
+    done_by (Done run) cause pairs machines zero = record { pairs = pairs; machines = machines }
+    done_by (ArrayFault side) cause pairs machines zero = cc zero
+    done_by (PortFault machine) cause pairs machines zero = cc zero
+    done_by (Foreign thing wanted found) cause pairs machines zero = cc zero
+    done_by answer cause pairs machines zero = absurd cause
+
+    pub done : status ≡ 0 → IsTested array_tells port_tells estate plan old new
+    done zero =
+        let tested = tested_at 0 zero (λ e. cc e) (λ e. cc e) (λ e. cc e) in
+        done_by a.said.answer tested.0.cause tested.0.pairs_done tested.0.machines_done tested.1
+
+    snapshots_by : (answer : Answer) → RunCause array_tells port_tells estate plan old new answer → PairsDone plan old.array new.array answer → status_of answer ≡ 6 → AreTestedPairs plan old.array.pair new.array.pair
+    snapshots_by (PortFault machine) cause pairs six = pairs
+    snapshots_by (Done run) cause pairs six = cc six
+    snapshots_by (ArrayFault side) cause pairs six = cc six
+    snapshots_by (Foreign thing wanted found) cause pairs six = cc six
+    snapshots_by answer cause pairs six = absurd cause
+
+    pub snapshots_first : array_tells → HasOpeningPairs old → status ≡ 6 → AreTestedPairs plan old.array.pair new.array.pair
+    snapshots_first at opening six =
+        let tested = tested_at 6 six (λ e. cc e) (λ e. cc e) (λ e. cc e) in
+        snapshots_by a.said.answer tested.0.cause (tested.0.pairs_done at opening) tested.1
+
+    groups_by : (answer : Answer) → RunCause array_tells port_tells estate plan old new answer → PairsDone plan old.array new.array answer → status_of answer ≡ 5 → AreTestedByGroup plan old.array.group old.array.pair new.array.pair
+    groups_by (ArrayFault side) cause pairs five = pairs
+    groups_by (Done run) cause pairs five = cc five
+    groups_by (PortFault machine) cause pairs five = cc five
+    groups_by (Foreign thing wanted found) cause pairs five = cc five
+    groups_by answer cause pairs five = absurd cause
+
+    pub whole_groups : array_tells → HasOpeningPairs old → status ≡ 5 → AreTestedByGroup plan old.array.group old.array.pair new.array.pair
+    whole_groups at opening five =
+        let tested = tested_at 5 five (λ e. cc e) (λ e. cc e) (λ e. cc e) in
+        groups_by a.said.answer tested.0.cause (tested.0.pairs_done at opening) tested.1
+
+    -- where no call failed, only a finished test answers
+    module _ (at : array_tells) (pt : port_tells) (pairs : HasOpeningPairs old) (machines : HasOpeningMachines old) (none : NoneRose source old new sink) where
+      done_only : (answer : Answer) → RunCause array_tells port_tells estate plan old new answer → answer ≡ Done 1
+      done_only (Done run) cause = ap Done cause
+      done_only (ArrayFault side) cause = absurd (none.array_faults side cause.0)
+      done_only (PortFault m) cause = absurd (none.port_faults m B cause.failed.rose)
+      done_only (Foreign (Pair k) wanted found) cause = absurd (cause.0.foreign at pairs)
+      done_only (Foreign (Machine k) wanted found) cause = absurd (cause.foreign pt machines)
+      done_only answer cause = absurd cause
+
+      pub complete : Gives sink_tells sink status (plain None (Done 1)) ⊎ LacksMemory sink_tells sink status
+      complete = elim (come t estate (Test plan) asks) [
+        | inl failed ↦ absurd (none.source_faults failed.rose)
+        | inr rest ↦ elim rest [
+          | inl lacked ↦ inr (inl (subst (Gives sink_tells sink status) lacked.told a.gives))
+          | inr test ↦ inl (subst (Gives sink_tells sink status) (test.told ∙ ap (plain (Some estate)) (done_only a.said.answer test.cause)) a.gives)
+        ]
+      ]

@@ -1,13 +1,8 @@
 pub mod AnswerLaws
 pub mod CallLaws
-pub mod LinesLaws
-mod Names
-pub mod PairListLaws
-mod Parts
-mod Rows
-pub mod StartLaws
-pub mod StorageLaws
+pub mod CauseLaws
+pub mod FindLaws
+pub mod ReadingLaws
 pub mod StreamsLaws
-pub mod TestLaws
-mod Walks
+pub mod TestableLaws
 pub mod WordsLaws

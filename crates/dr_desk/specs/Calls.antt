@@ -1,22 +1,31 @@
 -- One call of the desk: what it answered, why, and what it told.
-use Rattle.std.specs.Prelude.{ℕ, ◌≡◌, ◌<◌, ◌≤◌, ◌⊎◌, Bool, ◌||◌, ◌==◌, List, [], ◌∷◌, ◌++◌, length, take, Option, None, MatchOption}
+use Rattle.std.specs.Prelude.{ℕ, ◌≡◌, ◌≢◌, ◌<◌, ◌≤◌, ◌⊎◌, Bool, true, false, ◌||◌, ◌==◌, List, [], ◌∷◌, ◌++◌, length, take, Option, Some, None}
 use Rattle.dr_base.specs.declared.side.Side.{Side}
 use Rattle.dr_base.specs.Answers.{status_of}
 use Rattle.dr_base.specs.Causes.{Rose}
 use Rattle.dr_base.specs.declared.answer.Answer.{Answer}
-use Rattle.dr_base.specs.declared.answer.Answer.TheVariants.{BadWords, BadEstate, ReadFault, NoMemory}
-use Rattle.dr_base.specs.declared.command.RunWords.{RunWords}
+use Rattle.dr_base.specs.declared.answer.Answer.TheVariants.{BadWords, Estate as FaultyEstate, Refused, Shown, ReadFault, NoMemory}
+use Rattle.dr_base.specs.declared.command.Command.{Command}
+use Rattle.dr_inventory.specs.declared.estate.Estate.{Estate}
+use Rattle.dr_plan.specs.declared.plan.Plan.{Plan}
+use Rattle.dr_base.specs.declared.refusal.Refusal.TheVariants.{UnknownPlan}
+use Rattle.dr_setting.specs.declared.setting.Setting.{Setting}
+use Rattle.dr_setting.specs.declared.setting.SettingFault.{SettingFault}
+use Rattle.dr_setting.specs.declared.setting.SettingFault.TheVariants.{NoMemory as NoMemoryForSetting}
+use Rattle.dr_setting.specs.Settings.{IsSetting, IsFirstFault}
 use Rattle.dr_outside.specs.Pairs.{Drift}
+use Rattle.dr_outside.specs.Arrays.{ArrayState, is_listed}
+use Rattle.dr_outside.specs.Machines.{PortState}
 use Rattle.dr_model.specs.Testing.{DriftsButSnapshot}
-use Rattle.dr_desk.specs.declared.lines.Estate.{Estate}
-use Rattle.dr_desk.specs.declared.lines.LineFault.{LineFault}
-use Rattle.dr_desk.specs.declared.lines.LineFault.TheVariants.{BadLine, NoMemory as LinesNoMemory}
-use Rattle.dr_desk.specs.Lines.{IsEstate, IsFirstBadLine}
-use Rattle.dr_desk.specs.Starts.{ChangesAtB}
+use Rattle.dr_testing.specs.Placing.{is_planned}
+use Rattle.dr_testing.specs.Starts.{ChangesAtB}
+use Rattle.dr_testing.specs.Tests.{Site, HasOpeningPairs, HasOpeningMachines, AreInOrder, AreTestedPairs, AreTestedMachines, MachinesDone, PairsDone, KeepsPairs, KeepsMachines, RunCause}
+use Rattle.dr_report.specs.Texts.{answer_text_of}
+use Rattle.dr_report.specs.Reports.{TellsGroups, preview_text_of}
+use Rattle.dr_desk.specs.Readings.{Reading, IsReading, NoEstate, Faulty, Sound, fault_answer}
 use Rattle.dr_desk.specs.Streams.{looked_at}
-use Rattle.dr_desk.specs.Tests.{Site, HasOpeningPairs, HasOpeningMachines, AreInOrder, AreTestedPairs, AreTestedMachines, CallsNothing, MachinesDone, PairsDone, TestCause}
-use Rattle.dr_desk.specs.Texts.{answer_text}
-use Rattle.dr_desk.specs.Words.{IsTest, IsFirstBadWord}
+use Rattle.dr_desk.specs.Verdicts.{Verdict, verdict, Refuse, ShowGroups, ShowPlan, Test}
+use Rattle.dr_desk.specs.Words.{IsCommand, IsFirstBadWord}
 
 -- what a source has left, and its count of faults, before and after a call
 pub record Received : Type 0 where
@@ -40,106 +49,150 @@ pub record Sent : Type 0 where
 abbrev pub sent : {K : Type 0} → (K → List ℕ) → (K → ℕ) → K → K → Sent
 sent taken faults old new = record { before = taken old; after = taken new; faults_before = faults old; faults_after = faults new }
 
--- the words are those of a test
-abbrev pub AreWords : List (List ℕ) → Type 0
-AreWords words = (run : RunWords) × IsTest words run
+-- what a call said: its answer, and the text of that, with a report before it where one is asked for
+pub record Said : Type 0 where
+  pub answer : Answer
+  pub text : List ℕ
 
--- the answer to an input that is no estate
-abbrev pub fault_answer : LineFault → Answer
-fault_answer (BadLine line) = BadEstate line
-fault_answer LinesNoMemory = NoMemory
+-- an answer with its text
+abbrev pub said_by : Answer → List ℕ → Said
+said_by answer text = record { answer = answer; text = text }
 
--- when an input gives each answer: its first bad line, want of memory, or what the test of its estate gives
-abbrev pub InputCause : (array_tells port_tells : Type 0) → List ℕ → Option Estate → Site → Site → Answer → Type 0
-InputCause array_tells port_tells input estate old new (BadWords place) = ⊥
-InputCause array_tells port_tells input estate old new ReadFault = ⊥
-InputCause array_tells port_tells input estate old new (BadEstate line) = IsFirstBadLine input line
-InputCause array_tells port_tells input estate old new NoMemory = Unit {0}
-InputCause array_tells port_tells input estate old new answer =
-    MatchOption estate ⊥ (λ e. IsEstate input e × TestCause array_tells port_tells e old new answer)
+-- an answer alone, in which what this estate numbers goes by its name
+abbrev pub plain : Option Estate → Answer → Said
+plain estate answer = record { answer = answer; text = answer_text_of estate answer }
 
--- when a call gives each answer, in the order of the refusals: the words, the source, and then the input
-abbrev pub Cause : (array_tells port_tells : Type 0) → List (List ℕ) → Received → List ℕ → Option Estate → Site → Site → Answer → Type 0
-Cause array_tells port_tells words source input estate old new (BadWords place) = IsFirstBadWord words place
-Cause array_tells port_tells words source input estate old new ReadFault = AreWords words × Rose source.faults_before source.faults_after
-Cause array_tells port_tells words source input estate old new answer =
-    AreWords words × InputCause array_tells port_tells input estate old new answer
+-- a report, and that it was shown
+abbrev pub shown : List ℕ → Said
+shown report = record { answer = Shown; text = report ++ answer_text_of None Shown }
 
--- what a finished test leaves of all that tells its state
-pub record IsTested (array_tells port_tells : Type 0) (estate : Estate) (old new : Site) : Type 0 where
-  pub pairs : array_tells → HasOpeningPairs old → AreTestedPairs estate old.array.pair new.array.pair
-  pub machines : port_tells → HasOpeningMachines old → AreTestedMachines estate old.machine new.machine
+-- nothing was called, and this was said
+pub record SaysOnly (old new : Site) (said wanted : Said) : Type 0 where
+  pub same : new ≡ old
+  pub told : said ≡ wanted
 
--- each pair differs by drift and by its snapshot alone, and each machine by its post at the recovery side alone
-pub record KeepsProtected (array_tells port_tells : Type 0) (old new : Site) : Type 0 where
-  pub pairs : array_tells → HasOpeningPairs old → (i : ℕ) → DriftsButSnapshot (old.array.pair i) (new.array.pair i)
-  pub machines : port_tells → (i : ℕ) → ChangesAtB (old.machine i) (new.machine i)
+-- memory was wanting, or this holds of what was said
+abbrev pub OrLacks : Said → Type 0 → Type 0
+OrLacks said rest = (said ≡ plain None NoMemory) ⊎ rest
 
--- what isn't the estate's drifted, or is as it was
-pub record KeepsOthers (array_tells port_tells : Type 0) (estate : Estate) (old new : Site) : Type 0 where
-  pub pairs : array_tells → HasOpeningPairs old → (i : ℕ) → length estate.pairs ≤ i → Drift (old.array.pair i) (new.array.pair i)
-  pub machines : port_tells → (i : ℕ) → length estate.machines ≤ i → new.machine i ≡ old.machine i
+-- memory was wanting before anything was called, or this holds of what was said
+abbrev pub OrLacked : Site → Site → Said → Type 0 → Type 0
+OrLacked old new said rest = SaysOnly old new said (plain None NoMemory) ⊎ rest
 
--- what an answer leaves of the site
-pub record Leaves (array_tells port_tells : Type 0) (input : List ℕ) (old new : Site) (answer : Answer) : Type 0 where
-  pub nothing : CallsNothing old new answer
-  pub no_pairs : (estate : Estate) → IsEstate input estate → length estate.pairs ≡ 0 → new.array ≡ old.array
-  pub protected : KeepsProtected array_tells port_tells old new
-  pub others : (estate : Estate) → IsEstate input estate → KeepsOthers array_tells port_tells estate old new
-  pub order : (estate : Estate) → IsEstate input estate → port_tells → HasOpeningMachines old → AreInOrder estate new.machine
-  pub pairs : (estate : Estate) → IsEstate input estate → array_tells → HasOpeningPairs old → PairsDone estate old.array new.array answer
-  pub machines : (estate : Estate) → IsEstate input estate → port_tells → HasOpeningMachines old → MachinesDone estate old.machine new.machine answer
+-- a report was shown that meets this
+abbrev pub IsShown : (List ℕ → Type 0) → Said → Type 0
+IsShown Tells said = (report : List ℕ) × Tells report × (said ≡ shown report)
 
--- an answer and its text: the input that was read, the estate that it is, why the answer came, and what it leaves
-pub record IsAnswer (source_tells array_tells port_tells : Type 0) (words : List (List ℕ)) (source : Received) (old new : Site) (answer : Answer) (text : List ℕ) : Type 0 where
+-- what a test of this plan answered, why, and what it leaves of the site
+pub record IsTest (array_tells port_tells : Type 0) (estate : Estate) (plan : Plan) (old new : Site) (said : Said) : Type 0 where
+  pub cause : RunCause array_tells port_tells estate plan old new said.answer
+  pub told : said ≡ plain (Some estate) said.answer
+  pub no_pairs : length plan.pairs ≡ 0 → new.array ≡ old.array
+  pub pairs_done : array_tells → HasOpeningPairs old → PairsDone plan old.array new.array said.answer
+  pub pairs_kept : array_tells → HasOpeningPairs old → KeepsPairs plan old.array.pair new.array.pair
+  pub machines_done : port_tells → HasOpeningMachines old → MachinesDone estate plan old.machine new.machine said.answer
+  pub machines_kept : port_tells → KeepsMachines plan old.machine new.machine
+  pub order : port_tells → HasOpeningMachines old → AreInOrder estate plan new.machine
+
+-- nothing was called, and a report was shown that meets this
+pub record ShowsOnly (old new : Site) (said : Said) (Tells : List ℕ → Type 0) : Type 0 where
+  pub same : new ≡ old
+  pub is_shown : IsShown Tells said
+
+-- what a command said and did, by what it came to
+abbrev pub VerdictCause : (array_tells port_tells : Type 0) → Estate → Verdict → Site → Site → Said → Type 0
+VerdictCause array_tells port_tells estate (Refuse refusal) old new said = SaysOnly old new said (plain (Some estate) (Refused refusal))
+VerdictCause array_tells port_tells estate ShowGroups old new said = ShowsOnly old new said (TellsGroups estate)
+VerdictCause array_tells port_tells estate (ShowPlan plan) old new said = ShowsOnly old new said (λ report. report ≡ preview_text_of estate plan)
+VerdictCause array_tells port_tells estate (Test plan) old new said = IsTest array_tells port_tells estate plan old new said
+
+-- what a command said and did, by what its input is
+abbrev pub ReadingCause : (array_tells port_tells : Type 0) → Command → Reading → Site → Site → Said → Type 0
+ReadingCause array_tells port_tells command (NoEstate fault) old new said = SaysOnly old new said (plain None (FaultyEstate fault))
+ReadingCause array_tells port_tells command (Faulty estate fault) old new said = SaysOnly old new said (plain (Some estate) (fault_answer fault))
+ReadingCause array_tells port_tells command (Sound estate setting) old new said = VerdictCause array_tells port_tells estate (verdict estate setting old command) old new said
+
+-- what a preview under this name said
+abbrev pub PreviewCause : Estate → List ℕ → Option Plan → Said → Type 0
+PreviewCause estate name None said = said ≡ plain (Some estate) (Refused (UnknownPlan name))
+PreviewCause estate name (Some plan) said = IsShown (λ report. report ≡ preview_text_of estate plan) said
+
+-- what was said to a command about this estate, by what is wrong with it beside its own rules
+pub record IsAboutFault (estate : Estate) (old new : Site) (said : Said) : Type 0 where
+  pub fault : SettingFault
+  pub is_fault : IsFirstFault estate fault × (fault ≢ NoMemoryForSetting)
+  pub says : SaysOnly old new said (plain (Some estate) (fault_answer fault))
+
+-- the same, where nothing is wrong with it
+pub record IsAboutSetting (array_tells port_tells : Type 0) (command : Command) (estate : Estate) (old new : Site) (said : Said) : Type 0 where
+  pub setting : Setting
+  pub is_setting : IsSetting estate setting
+  pub cause : VerdictCause array_tells port_tells estate (verdict estate setting old command) old new said
+
+-- what was said to a command about this estate
+abbrev pub EstateCause : (array_tells port_tells : Type 0) → Command → Estate → Site → Site → Said → Type 0
+EstateCause array_tells port_tells command estate old new said =
+    IsAboutFault estate old new said ⊎ IsAboutSetting array_tells port_tells command estate old new said
+
+-- the input was read
+pub record IsInputAnswer (array_tells port_tells : Type 0) (command : Command) (input : List ℕ) (old new : Site) (said : Said) : Type 0 where
+  pub reading : Reading
+  pub is_reading : IsReading input reading
+  pub cause : ReadingCause array_tells port_tells command reading old new said
+
+-- the words are no command
+pub record IsWordsAnswer (words : List (List ℕ)) (old new : Site) (said : Said) : Type 0 where
+  pub place : ℕ
+  pub bad : IsFirstBadWord words place
+  pub says : SaysOnly old new said (plain None (BadWords place))
+
+-- the source failed
+pub record IsReadFailed (source : Received) (old new : Site) (said : Said) : Type 0 where
+  pub rose : Rose source.faults_before source.faults_after
+  pub says : SaysOnly old new said (plain None ReadFault)
+
+-- the words are a command, and why this was said: the source failed, memory was wanting, or by the input
+pub record IsCommandAnswer (source_tells array_tells port_tells : Type 0) (words : List (List ℕ)) (source : Received) (old new : Site) (said : Said) : Type 0 where
+  pub command : Command
+  pub is_command : IsCommand words command
   pub input : List ℕ
   pub read : source_tells → input ≡ looked_at source.before
-  pub estate : Option Estate
-  pub cause : Cause array_tells port_tells words source input estate old new answer
-  pub is_text : text ≡ answer_text estate answer
-  pub leaves : Leaves array_tells port_tells input old new answer
+  pub cause : IsReadFailed source old new said ⊎ OrLacked old new said (IsInputAnswer array_tells port_tells command input old new said)
 
--- the same of an input that was read
-pub record IsInputAnswer (array_tells port_tells : Type 0) (input : List ℕ) (old new : Site) (answer : Answer) (text : List ℕ) : Type 0 where
-  pub estate : Option Estate
-  pub cause : InputCause array_tells port_tells input estate old new answer
-  pub is_text : text ≡ answer_text estate answer
-  pub leaves : Leaves array_tells port_tells input old new answer
+-- what a call said, and why: in the order of the refusals, the words, the source, and then the input
+abbrev pub IsAnswer : (source_tells array_tells port_tells : Type 0) → List (List ℕ) → Received → Site → Site → Said → Type 0
+IsAnswer source_tells array_tells port_tells words source old new said =
+    IsWordsAnswer words old new said ⊎ IsCommandAnswer source_tells array_tells port_tells words source old new said
 
 -- the whole text was taken, and the status is the answer's
-pub record IsTold (tells : Type 0) (sink : Sent) (status : ℕ) (answer : Answer) (text : List ℕ) : Type 0 where
-  pub status_is : status ≡ status_of answer
-  pub written : tells → sink.after ≡ sink.before ++ text
+pub record IsTold (tells : Type 0) (sink : Sent) (status : ℕ) (said : Said) : Type 0 where
+  pub status_is : status ≡ status_of said.answer
+  pub written : tells → sink.after ≡ sink.before ++ said.text
 
 -- a write failed: the first bytes of the text were taken, and nothing after them
-pub record IsCutOff (tells : Type 0) (sink : Sent) (status : ℕ) (text : List ℕ) : Type 0 where
+pub record IsCutOff (tells : Type 0) (sink : Sent) (status : ℕ) (said : Said) : Type 0 where
   pub status_is : status ≡ 10
   pub rose : Rose sink.faults_before sink.faults_after
-  pub written : tells → (count : ℕ) × (count < length text) × (sink.after ≡ sink.before ++ take count text)
+  pub written : tells → (count : ℕ) × (count < length said.text) × (sink.after ≡ sink.before ++ take count said.text)
 
--- the answer was told, whole or in part
-abbrev pub Gives : (tells : Type 0) → Sent → ℕ → Answer → List ℕ → Type 0
-Gives tells sink status answer text = IsTold tells sink status answer text ⊎ IsCutOff tells sink status text
+-- what was said was told, whole or in part
+abbrev pub Gives : (tells : Type 0) → Sent → ℕ → Said → Type 0
+Gives tells sink status said = IsTold tells sink status said ⊎ IsCutOff tells sink status said
 
 -- there was no room for an answer, and nothing was written
 pub record IsSilent (tells : Type 0) (sink : Sent) (status : ℕ) : Type 0 where
   pub status_is : status ≡ 11
   pub written : tells → sink.after ≡ sink.before
 
--- an answer that has no estate's names in its text
-abbrev pub GivesPlain : (tells : Type 0) → Sent → ℕ → Answer → Type 0
-GivesPlain tells sink status answer = Gives tells sink status answer (answer_text None answer)
-
 -- want of memory: told, or without room for an answer not even that
 abbrev pub LacksMemory : (tells : Type 0) → Sent → ℕ → Type 0
-LacksMemory tells sink status = GivesPlain tells sink status NoMemory ⊎ IsSilent tells sink status
+LacksMemory tells sink status = Gives tells sink status (plain None NoMemory) ⊎ IsSilent tells sink status
 
--- the answer that a call gave, with its cause, and the one line's mark of no records
+-- what a call said, with its cause, and the one line's mark of no records
 pub record Answers (source_tells sink_tells array_tells port_tells : Type 0) (words : List (List ℕ)) (source : Received) (old new : Site) (sink : Sent) (status : ℕ) (marks : List ℕ) : Type 0 where
-  pub answer : Answer
-  pub text : List ℕ
-  pub is : IsAnswer source_tells array_tells port_tells words source old new answer text
-  pub gives : Gives sink_tells sink status answer text
+  pub said : Said
+  pub is : IsAnswer source_tells array_tells port_tells words source old new said
+  pub gives : Gives sink_tells sink status said
   pub marked : marks ≡ 0 ∷ []
 
 -- there was no room for an answer: nothing is read, written, marked or changed
@@ -168,9 +221,52 @@ pub record NoneRose (source : Received) (old new : Site) (sink : Sent) : Type 0 
 
 -- a read may have failed
 abbrev pub MayFailToRead : (tells : Type 0) → Received → Sent → ℕ → Type 0
-MayFailToRead tells source sink status = Rose source.faults_before source.faults_after × GivesPlain tells sink status ReadFault
+MayFailToRead tells source sink status = Rose source.faults_before source.faults_after × Gives tells sink status (plain None ReadFault)
 
--- the call refuses with this answer, unless a read failed or memory was wanting before
-abbrev pub Refuses : (tells : Type 0) → Received → Sent → ℕ → Answer → Type 0
-Refuses tells source sink status answer =
-    GivesPlain tells sink status answer ⊎ (MayFailToRead tells source sink status ⊎ LacksMemory tells sink status)
+-- the call says this, unless a read failed or memory was wanting before
+abbrev pub Says : (tells : Type 0) → Received → Sent → ℕ → Said → Type 0
+Says tells source sink status said =
+    Gives tells sink status said ⊎ (MayFailToRead tells source sink status ⊎ LacksMemory tells sink status)
+
+-- the call shows a report that meets this, unless a read failed or memory was wanting before
+abbrev pub Shows : (tells : Type 0) → Received → Sent → ℕ → (List ℕ → Type 0) → Type 0
+Shows tells source sink status Tells =
+    ((report : List ℕ) × Tells report × Gives tells sink status (shown report)) ⊎ (MayFailToRead tells source sink status ⊎ LacksMemory tells sink status)
+
+-- the refusal that a verdict gives, if it refuses
+abbrev pub verdict_refusal : Estate → Verdict → Option Said
+verdict_refusal estate (Refuse refusal) = Some (plain (Some estate) (Refused refusal))
+verdict_refusal estate _ = None
+
+-- the refusal that is due: of an input that is no estate, of a fault of its groups, plans or maps, or of the command
+abbrev pub refusal_due : Reading → Site → Command → Option Said
+refusal_due (NoEstate fault) site command = Some (plain None (FaultyEstate fault))
+refusal_due (Faulty estate fault) site command = Some (plain (Some estate) (fault_answer fault))
+refusal_due (Sound estate setting) site command = verdict_refusal estate (verdict estate setting site command)
+
+-- the words are this command, and the input is this estate, with what its groups hold and its plans; this is what it comes to
+pub record ComesTo (words : List (List ℕ)) (input : List ℕ) (site : Site) (estate : Estate) (wanted : Verdict) : Type 0 where
+  pub command : Command
+  pub is_command : IsCommand words command
+  pub setting : Setting
+  pub is_reading : IsReading input (Sound estate setting)
+  pub verdict_is : verdict estate setting site command ≡ wanted
+
+-- the words and the input ask for a test of this plan, and nothing refuses it
+abbrev pub AsksToTest : List (List ℕ) → List ℕ → Site → Estate → Plan → Type 0
+AsksToTest words input site estate plan = ComesTo words input site estate (Test plan)
+
+-- what a finished test leaves of all that tells its state
+pub record IsTested (array_tells port_tells : Type 0) (estate : Estate) (plan : Plan) (old new : Site) : Type 0 where
+  pub pairs : array_tells → HasOpeningPairs old → AreTestedPairs plan old.array.pair new.array.pair
+  pub machines : port_tells → HasOpeningMachines old → AreTestedMachines estate plan old.machine new.machine
+
+-- each pair differs by drift and by its snapshot alone, and each machine by its post at the recovery side alone
+pub record KeepsProtected (array_tells port_tells : Type 0) (old new : Site) : Type 0 where
+  pub pairs : array_tells → HasOpeningPairs old → (i : ℕ) → DriftsButSnapshot (old.array.pair i) (new.array.pair i)
+  pub machines : port_tells → (i : ℕ) → ChangesAtB (old.machine i) (new.machine i)
+
+-- what isn't the plan's drifted, or is as it was
+pub record KeepsOthers (array_tells port_tells : Type 0) (plan : Plan) (old new : Site) : Type 0 where
+  pub pairs : array_tells → HasOpeningPairs old → (i : ℕ) → is_listed plan.pairs i ≡ false → Drift (old.array.pair i) (new.array.pair i)
+  pub machines : port_tells → (i : ℕ) → is_planned plan i ≡ false → new.machine i ≡ old.machine i

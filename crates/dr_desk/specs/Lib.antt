@@ -1,11 +1,6 @@
 pub mod Calls
-pub mod Drafts
-pub mod Lines
-pub mod PairLists
+pub mod Readings
 pub mod Rooms
-pub mod Starts
-pub mod Storage
 pub mod Streams
-pub mod Tests
-pub mod Texts
+pub mod Verdicts
 pub mod Words

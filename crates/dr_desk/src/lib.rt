@@ -3,18 +3,13 @@
 
 mod answering;
 mod input;
-mod lines;
 mod output;
-mod pair_list;
+mod plans;
 mod room;
-mod start_up;
-mod storage;
-mod test_run;
+mod telling;
 #[cfg(test)]
 mod tests;
-mod text;
 mod top_call;
 mod words;
 
-pub use lines::{Estate, LineFault, Machine};
 pub use top_call::{Ended, desk};

@@ -12,10 +12,8 @@ const TEXT: usize = 1_024;
 pub(crate) struct Room {
     /// For the line's mark.
     pub(crate) marks: Vec<u32>,
-    /// For the answer's text.
+    /// For the answer's text. Where a report comes before it, the report's own room is used.
     pub(crate) text: Vec<u8>,
-    /// For what is written: the text alone, where words ask.
-    pub(crate) response: Vec<u8>,
 }
 
 impl Room {
@@ -29,13 +27,6 @@ impl Room {
         let Ok(text) = Vec::with_capacity(alloc, TEXT) else {
             return None;
         };
-        let Ok(response) = Vec::with_capacity(alloc, TEXT) else {
-            return None;
-        };
-        Some(Room {
-            marks,
-            text,
-            response,
-        })
+        Some(Room { marks, text })
     }
 }

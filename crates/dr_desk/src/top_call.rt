@@ -1,16 +1,17 @@
-ghost use Rattle.std.specs.Prelude.{◌≡◌, ◌⊎◌, ◌<◌, ◌≤◌, ℕ, List, [], ◌∷◌, None, true, length, map, string_bytes};
-ghost use Rattle.dr_base.specs.Causes.{Rose};
-ghost use Rattle.dr_base.specs.declared.answer.Answer.TheVariants.{Done, BadWords, BadEstate, Refused, ReadFault};
-ghost use Rattle.dr_base.specs.declared.refusal.Refusal.TheVariants.{NoSlot};
-ghost use Rattle.dr_base.specs.declared.refusal.SlotKind.TheVariants.{Machines, Pairs};
+ghost use Rattle.std.specs.Prelude.{◌≡◌, ◌⊎◌, ◌≤◌, ℕ, [], ◌∷◌, Some, None, true, length, map, string_bytes, vec_capacity};
+ghost use Rattle.dr_base.specs.declared.answer.Answer.TheVariants.{BadWords, Done};
+ghost use Rattle.dr_base.specs.declared.command.Command.{Command};
+ghost use Rattle.dr_inventory.specs.declared.estate.Estate.{Estate};
+ghost use Rattle.dr_plan.specs.declared.plan.Plan.{Plan};
 ghost use Rattle.dr_outside.specs.Machines.{machine_at};
-ghost use Rattle.dr_desk.specs.declared.lines.Estate.{Estate};
-ghost use Rattle.dr_desk.specs.Lines.{IsEstate, IsFirstBadLine};
-ghost use Rattle.dr_desk.specs.Calls.{received, sent, Answered, Answers, Gives, AreWords, GivesPlain, LacksMemory, IsSilent, is_refusal, IsTested, KeepsProtected, KeepsOthers, NoneRose, Refuses};
-ghost use Rattle.dr_desk.specs.Rooms.{IsRoom, HasText};
+ghost use Rattle.dr_testing.specs.Tests.{site, AreInOrder, AreTestedByGroup, AreTestedPairs, HasOpeningPairs, HasOpeningMachines};
+ghost use Rattle.dr_report.specs.Reports.{TellsGroups, preview_text_of};
+ghost use Rattle.dr_desk.specs.Calls.{received, sent, said_by, plain, refusal_due, Said, Answered, Answers, AsksToTest, ComesTo, Gives, IsSilent, IsTested, KeepsOthers, KeepsProtected, LacksMemory, NoneRose, Says, Shows, is_refusal};
+ghost use Rattle.dr_desk.specs.Readings.{Reading, IsReading};
+ghost use Rattle.dr_desk.specs.Rooms.{IsRoom};
 ghost use Rattle.dr_desk.specs.Streams.{looked_at, ReadsNoFurther};
-ghost use Rattle.dr_desk.specs.Tests.{site, AreInOrder, AreTestedByGroup, AreTestedPairs, HasOpeningPairs, HasOpeningMachines, HasSlots};
-ghost use Rattle.dr_desk.specs.Words.{IsFirstBadWord};
+ghost use Rattle.dr_desk.specs.Verdicts.{ShowGroups, ShowPlan};
+ghost use Rattle.dr_desk.specs.Words.{IsCommand, IsFirstBadWord, is_report};
 
 use crate::answering::answer_words;
 use crate::output::write_all;
@@ -39,23 +40,33 @@ fn ended_silent(alloc: Global) -> Ended
     }
 }
 
-// Writes the answer's text, and ends the one line. There is no journal, so its mark is 0.
-fn respond<K: Sink>(mut room: Room, answer: &Answer, sink: &mut K) -> Ended
-    requires room { HasText room }
-    ensures gives { Gives K.tells
-        (sent K.taken K.faults sink.old sink.new) result.status answer.now room.text.items }
-    ensures marks { result.marks ≡ 0 ∷ [] }
+// The marks of one line without journal records.
+fn one_mark(mut marks: Vec<u32>) -> Rows<u32>
+    requires empty { marks.items ≡ [] }
+    requires room { 1 ≤ vec_capacity marks }
+    ensures { result ≡ 0 ∷ [] }
 {
-    if room.response.extend_from_slice(&room.text).is_err() || room.marks.push(0).is_err() {
+    if marks.push(0).is_err() {
         unreachable!();
     }
-    let status = match write_all(sink, &room.response) {
+    Rows::new(marks)
+}
+
+// Writes what is said, and ends the one line. There is no journal, so its mark is 0.
+fn respond<K: Sink>(marks: Vec<u32>, text: &[u8], answer: &Answer, sink: &mut K) -> Ended
+    requires empty { marks.items ≡ [] }
+    requires room { 1 ≤ vec_capacity marks }
+    ensures gives { Gives K.tells (sent K.taken K.faults sink.old sink.new) result.status
+        (said_by answer.now text.now) }
+    ensures marks { result.marks ≡ 0 ∷ [] }
+{
+    let status = match write_all(sink, text) {
         Ok(()) => answer.status(),
         Err(Failed) => Answer::WriteFault.status(),
     };
     Ended {
         status,
-        marks: Rows::new(room.marks),
+        marks: one_mark(marks),
     }
 }
 
@@ -79,12 +90,14 @@ fn answer_in<A: Array, P: Port, S: Source, K: Sink>(
         → source.new ≡ source.old }
 {
     let answer = answer_words(alloc, words, array, ports, source, &mut room.text);
-    respond(room, &answer, sink)
+    respond(room.marks, &room.text, &answer, sink)
 }
 
-/// Does one test of the estate on the source: `words` are `test PLAN ID`. The pairs are replicated
-/// and get their snapshots, and the machines start at B, in a bubble, in the order of their
-/// priorities. The answer's text goes to the sink, and its status is returned.
+/// Does one command. `words` are `test PLAN ID`, `preview PLAN` or `groups`, and the source has an
+/// estate in TOML. A test replicates the plan's pairs and takes their snapshots as run 1, and starts
+/// its machines at B, in a bubble, wave by wave. A preview shows the order of start-up of a plan, and
+/// `groups` the datastores with their datastore groups; both call nothing. What is said goes to the
+/// sink, and the answer's status is returned.
 ///
 /// Port i is machine i. What is said of the site after a test holds from the opening state that
 /// protects A, of all that tells its state. Any other start is safe.
@@ -96,80 +109,97 @@ pub fn desk<A: Array, P: Port, S: Source, K: Sink>(
     source: &mut S,
     sink: &mut K,
 ) -> Ended
-    // What is answered: the status, the bytes written, the mark, and the cause of each answer.
+    // What is said: the status, the bytes written, the mark, and the cause of each answer.
     ensures answered { Answered S.tells K.tells A.tells P.tells (map string_bytes words.now)
         (received S.left S.faults source.old source.new)
         (site A.state P.state array.old ports.old.items) (site A.state P.state array.new ports.new.items)
         (sent K.taken K.faults sink.old sink.new) result.status result.marks }
     ensures bad_words { (place : ℕ) → IsFirstBadWord (map string_bytes words.now) place
-        → GivesPlain K.tells (sent K.taken K.faults sink.old sink.new) result.status (BadWords place)
+        → Gives K.tells (sent K.taken K.faults sink.old sink.new) result.status (plain None (BadWords place))
         ⊎ IsSilent K.tells (sent K.taken K.faults sink.old sink.new) result.status }
-    ensures bad_estate { S.tells → AreWords (map string_bytes words.now)
-        → (line : ℕ) → IsFirstBadLine (looked_at (S.left source.old)) line
-        → Refuses K.tells (received S.left S.faults source.old source.new)
-        (sent K.taken K.faults sink.old sink.new) result.status
-        (BadEstate line) }
-    ensures no_slot_for_machines { S.tells → AreWords (map string_bytes words.now)
-        → (estate : Estate) → IsEstate (looked_at (S.left source.old)) estate
-        → length ports.old.items < length estate.machines
-        → Refuses K.tells (received S.left S.faults source.old source.new)
-        (sent K.taken K.faults sink.old sink.new) result.status
-        (Refused (NoSlot Machines (length ports.old.items) (length estate.machines))) }
-    ensures no_slot_for_pairs { S.tells → AreWords (map string_bytes words.now)
-        → (estate : Estate) → IsEstate (looked_at (S.left source.old)) estate
-        → length estate.machines ≤ length ports.old.items
-        → (A.state array.old).count < length estate.pairs
-        → Refuses K.tells (received S.left S.faults source.old source.new)
-        (sent K.taken K.faults sink.old sink.new) result.status
-        (Refused (NoSlot Pairs (A.state array.old).count (length estate.pairs))) }
+
+    // The refusal that is due comes: the first fault of the estate, of its groups, plans and maps; an
+    // unknown plan; a plan that needs what isn't built; too few machines, too few pairs.
+    ensures refused { S.tells → (command : Command) → IsCommand (map string_bytes words.now) command
+        → (reading : Reading) → IsReading (looked_at (S.left source.old)) reading
+        → (due : Said) → refusal_due reading (site A.state P.state array.old ports.old.items) command ≡ Some due
+        → Says K.tells (received S.left S.faults source.old source.new)
+        (sent K.taken K.faults sink.old sink.new) result.status due }
+
+    // Where nothing refuses, a report is shown.
+    ensures groups_shown { S.tells → (estate : Estate)
+        → ComesTo (map string_bytes words.now) (looked_at (S.left source.old))
+        (site A.state P.state array.old ports.old.items) estate ShowGroups
+        → Shows K.tells (received S.left S.faults source.old source.new)
+        (sent K.taken K.faults sink.old sink.new) result.status (TellsGroups estate) }
+    ensures plan_shown { S.tells → (estate : Estate) (plan : Plan)
+        → ComesTo (map string_bytes words.now) (looked_at (S.left source.old))
+        (site A.state P.state array.old ports.old.items) estate (ShowPlan plan)
+        → Shows K.tells (received S.left S.faults source.old source.new)
+        (sent K.taken K.faults sink.old sink.new) result.status (λ report. report ≡ preview_text_of estate plan) }
 
     // Where no call failed and nothing refuses, the test is done, or memory was wanting.
-    ensures complete { S.tells → A.tells → P.tells → AreWords (map string_bytes words.now)
-        → (estate : Estate) → IsEstate (looked_at (S.left source.old)) estate
-        → HasSlots estate (site A.state P.state array.old ports.old.items)
+    ensures complete { S.tells → A.tells → P.tells → (estate : Estate) (plan : Plan)
+        → AsksToTest (map string_bytes words.now) (looked_at (S.left source.old))
+        (site A.state P.state array.old ports.old.items) estate plan
         → HasOpeningPairs (site A.state P.state array.old ports.old.items)
         → HasOpeningMachines (site A.state P.state array.old ports.old.items)
         → NoneRose (received S.left S.faults source.old source.new)
         (site A.state P.state array.old ports.old.items) (site A.state P.state array.new ports.new.items)
         (sent K.taken K.faults sink.old sink.new)
-        → GivesPlain K.tells (sent K.taken K.faults sink.old sink.new) result.status (Done 1)
+        → Gives K.tells (sent K.taken K.faults sink.old sink.new) result.status (plain None (Done 1))
         ⊎ LacksMemory K.tells (sent K.taken K.faults sink.old sink.new) result.status }
 
     // At status 0 each pair and machine is as a finished test leaves it.
-    ensures done { S.tells → result.status ≡ 0
-        → (estate : Estate) → IsEstate (looked_at (S.left source.old)) estate
-        → IsTested A.tells P.tells estate (site A.state P.state array.old ports.old.items)
+    ensures done { S.tells → result.status ≡ 0 → (estate : Estate) (plan : Plan)
+        → AsksToTest (map string_bytes words.now) (looked_at (S.left source.old))
+        (site A.state P.state array.old ports.old.items) estate plan
+        → IsTested A.tells P.tells estate plan (site A.state P.state array.old ports.old.items)
         (site A.state P.state array.new ports.new.items) }
 
-    // At a machine's fault too each pair has its snapshot: it is taken before a machine is touched.
+    // At a machine's fault too each pair of the plan has its snapshot: it is taken before a machine is
+    // touched.
     ensures snapshots_first { S.tells → A.tells → HasOpeningPairs (site A.state P.state array.old ports.old.items)
-        → result.status ≡ 6
-        → (estate : Estate) → IsEstate (looked_at (S.left source.old)) estate
-        → AreTestedPairs estate (A.state array.old).pair (A.state array.new).pair }
+        → result.status ≡ 6 → (estate : Estate) (plan : Plan)
+        → AsksToTest (map string_bytes words.now) (looked_at (S.left source.old))
+        (site A.state P.state array.old ports.old.items) estate plan
+        → AreTestedPairs plan (A.state array.old).pair (A.state array.new).pair }
 
     // At an array's fault each consistency group has its snapshots or none, and without pairs the
     // array isn't called.
     ensures whole_groups { S.tells → A.tells → HasOpeningPairs (site A.state P.state array.old ports.old.items)
-        → result.status ≡ 5
-        → (estate : Estate) → IsEstate (looked_at (S.left source.old)) estate
-        → AreTestedByGroup estate (A.state array.old).group (A.state array.old).pair (A.state array.new).pair }
-    ensures no_pairs { S.tells → (estate : Estate) → IsEstate (looked_at (S.left source.old)) estate
-        → length estate.pairs ≡ 0 → A.state array.new ≡ A.state array.old }
+        → result.status ≡ 5 → (estate : Estate) (plan : Plan)
+        → AsksToTest (map string_bytes words.now) (looked_at (S.left source.old))
+        (site A.state P.state array.old ports.old.items) estate plan
+        → AreTestedByGroup plan (A.state array.old).group (A.state array.old).pair (A.state array.new).pair }
+    ensures no_pairs { S.tells → (estate : Estate) (plan : Plan)
+        → AsksToTest (map string_bytes words.now) (looked_at (S.left source.old))
+        (site A.state P.state array.old ports.old.items) estate plan
+        → length plan.pairs ≡ 0 → A.state array.new ≡ A.state array.old }
 
-    // At bad words, a refusal, a failed read and want of memory nothing was called.
+    // At bad words, a refusal, a failed read and want of memory nothing was called, and for a report
+    // never is.
     ensures untouched { is_refusal result.status ≡ true
+        → site A.state P.state array.new ports.new.items
+        ≡ site A.state P.state array.old ports.old.items }
+
+    ensures reports { (command : Command) → IsCommand (map string_bytes words.now) command
+        → is_report command ≡ true
         → site A.state P.state array.new ports.new.items
         ≡ site A.state P.state array.old ports.old.items }
 
     // At every exit.
     ensures in_order { S.tells → P.tells
-        → HasOpeningMachines (site A.state P.state array.old ports.old.items)
-        → (estate : Estate) → IsEstate (looked_at (S.left source.old)) estate
-        → AreInOrder estate (machine_at P.state ports.new.items) }
+        → HasOpeningMachines (site A.state P.state array.old ports.old.items) → (estate : Estate) (plan : Plan)
+        → AsksToTest (map string_bytes words.now) (looked_at (S.left source.old))
+        (site A.state P.state array.old ports.old.items) estate plan
+        → AreInOrder estate plan (machine_at P.state ports.new.items) }
     ensures protected_side { KeepsProtected A.tells P.tells
         (site A.state P.state array.old ports.old.items) (site A.state P.state array.new ports.new.items) }
-    ensures others { S.tells → (estate : Estate) → IsEstate (looked_at (S.left source.old)) estate
-        → KeepsOthers A.tells P.tells estate (site A.state P.state array.old ports.old.items)
+    ensures others { S.tells → (estate : Estate) (plan : Plan)
+        → AsksToTest (map string_bytes words.now) (looked_at (S.left source.old))
+        (site A.state P.state array.old ports.old.items) estate plan
+        → KeepsOthers A.tells P.tells plan (site A.state P.state array.old ports.old.items)
         (site A.state P.state array.new ports.new.items) }
     ensures reads { S.tells → ReadsNoFurther (S.left source.old) (S.left source.new) }
     ensures unread { (place : ℕ) → IsFirstBadWord (map string_bytes words.now) place

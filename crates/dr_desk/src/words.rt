@@ -1,100 +1,122 @@
-ghost use Rattle.std.specs.Bool.{OnTrue, OnFalse};
-ghost use Rattle.std.specs.Prelude.{bytes_eq, codes, ◌≡◌, ◌<◌, true, false, length, map, string_bytes, MatchResult, OnSome, IfSome, IfNone};
+ghost use Rattle.std.specs.Prelude.{bytes_eq, codes, ◌≡◌, ◌<◌, ◌≤◌, ◌⊎◌, ℕ, IsTrue, true, false, false, length, map, string_bytes, MatchResult, IfSome, IfNone, IsNone};
 ghost use Rattle.dr_base.specs.Names.{is_name};
-ghost use Rattle.dr_desk.specs.Words.{IsTest, IsFirstBadWord, word_at};
+ghost use Rattle.dr_desk.specs.Words.{AreCommandWords, IsCommand, IsFirstBadWord, IsVerb, verb_count, word_at, word_count, NamesBelow, IsOfWords};
 
-use dr_base::{Name, Op, RunWords};
+use dr_base::{Command, Name, Op, RunWords};
 
-// Whether the first word is `test`.
-fn begins_with_test(words: &[String]) -> bool
-    ensures within { OnTrue result (0 < length words.now) }
-    ensures word { OnTrue result (bytes_eq (word_at (map string_bytes words.now) 0) (codes "test") ≡ true) }
-    ensures other { OnFalse result
-        (0 < length words.now → bytes_eq (word_at (map string_bytes words.now) 0) (codes "test") ≡ false) }
-{
-    !words.is_empty() && words[0].as_str() == "test"
+/// The first word of a command.
+#[derive(Clone, Copy, Debug, PartialEq, Eq)]
+pub(crate) enum Verb {
+    Test,
+    Preview,
+    Groups,
 }
 
-// The name at this place, from 0.
-fn name_at(words: &[String], place: usize) -> Option<Name>
-    ensures within { OnSome result (place < length words.now) }
-    ensures name { OnSome result (is_name (word_at (map string_bytes words.now) place) ≡ true) }
-    ensures value { IfSome result (λ name. name ≡ word_at (map string_bytes words.now) place) }
-    ensures none { IfNone result
-        (place < length words.now → is_name (word_at (map string_bytes words.now) place) ≡ false) }
-{
-    Name::read(words.get(place)?.as_bytes())
+impl Verb {
+    // How many words its command has.
+    fn count(self) -> usize
+        ensures { result ≡ verb_count self }
+    {
+        match self {
+            Verb::Test => 3,
+            Verb::Preview => 2,
+            Verb::Groups => 1,
+        }
+    }
 }
 
-/// The run that the words `test PLAN ID` ask for. Other words are answered with the place, from 0,
-/// of the first that may not stand there, or with their number where one is missing.
-pub(crate) fn read_words(words: &[String]) -> Result<RunWords, u32>
-    ensures { MatchResult result (IsTest (map string_bytes words.now))
+// The command that this word begins.
+fn verb_of(word: &str) -> Option<Verb>
+    ensures verb { IfSome result (λ verb. IsVerb word.now verb) }
+    ensures none { IsNone result → word_count word.now ≡ 0 }
+{
+    if word == "test" {
+        return Some(Verb::Test);
+    }
+    if word == "preview" {
+        return Some(Verb::Preview);
+    }
+    if word == "groups" {
+        return Some(Verb::Groups);
+    }
+    None
+}
+
+// Whether there is a name at this place, from 0.
+fn is_name_at(words: &[String], place: usize) -> bool
+    ensures within { IsTrue result → place < length words.now }
+    ensures is { place < length words.now → result ≡ is_name (word_at (map string_bytes words.now) place) }
+{
+    place < words.len() && Name::read(words[place].as_bytes()).is_some()
+}
+
+// The name that stands at this place, from 0.
+fn name_at(words: &[String], place: usize) -> Name
+    requires within { place < length words.now }
+    requires is { is_name (word_at (map string_bytes words.now) place) ≡ true }
+    ensures { result ≡ word_at (map string_bytes words.now) place }
+{
+    match Name::read(words[place].as_bytes()) {
+        Some(name) => name,
+        None => unreachable!(),
+    }
+}
+
+// The first place, from 1, below this one, at which no name stands.
+fn first_no_name(words: &[String], count: usize) -> Option<usize>
+    requires { 0 < length words.now }
+    ensures range { IfSome result (λ place. 1 ≤ place × place < count × place ≤ length words.now) }
+    ensures before { IfSome result (λ place. NamesBelow (map string_bytes words.now) place) }
+    ensures bad { IfSome result (λ place. place < length words.now
+        → is_name (word_at (map string_bytes words.now) place) ≡ false) }
+    ensures none { IsNone result → NamesBelow (map string_bytes words.now) count }
+    ensures enough { IsNone result → count ≤ length words.now ⊎ count ≤ 1 }
+{
+    for place in 1..count {
+        if !is_name_at(words, place) {
+            return Some(place);
+        }
+    }
+    None
+}
+
+// The command of this first word, where names follow.
+fn command_of(words: &[String], verb: Verb) -> Command
+    requires verb { IsVerb (word_at (map string_bytes words.now) 0) verb }
+    requires count { length words.now ≡ verb_count verb }
+    requires names { NamesBelow (map string_bytes words.now) (verb_count verb) }
+    ensures { IsOfWords (map string_bytes words.now) result }
+{
+    match verb {
+        Verb::Test => Command::Run(RunWords {
+            op: Op::Testing,
+            plan: name_at(words, 1),
+            id: name_at(words, 2),
+            forced: false,
+        }),
+        Verb::Preview => Command::Preview(name_at(words, 1)),
+        Verb::Groups => Command::Groups,
+    }
+}
+
+/// The command that the words are. Other words are answered with the place, from 0, of the first
+/// that may not stand there, or with their number where one is missing.
+pub(crate) fn read_words(words: &[String]) -> Result<Command, u32>
+    ensures { MatchResult result (IsCommand (map string_bytes words.now))
         (IsFirstBadWord (map string_bytes words.now)) }
 {
-    if !begins_with_test(words) {
+    if words.is_empty() {
         return Err(0);
     }
-    let Some(plan) = name_at(words, 1) else {
-        return Err(1);
+    let Some(verb) = verb_of(words[0].as_str()) else {
+        return Err(0);
     };
-    let Some(id) = name_at(words, 2) else {
-        return Err(2);
-    };
-    if words.len() > 3 {
-        return Err(3);
+    let count = verb.count();
+    if let Some(place) = first_no_name(words, count) {
+        return Err(place as u32);
     }
-    Ok(RunWords {
-        op: Op::Testing,
-        plan,
-        id,
-        forced: false,
-    })
-}
-
-#[cfg(test)]
-mod tests {
-    use super::*;
-    use std::alloc::{AllocError, Global};
-    use std::test::Fail;
-
-    fn words_of(alloc: Global, text: &str) -> Result<Vec<String>, AllocError> {
-        let mut words = Vec::new(alloc);
-        for word in text.split_whitespace() {
-            let word = String::from_str(alloc, word)?;
-            if words.push(word).is_err() {
-                return Err(AllocError);
-            }
-        }
-        Ok(words)
+    if words.len() > count {
+        return Err(count as u32);
     }
-
-    #[test]
-    fn the_first_bad_or_missing_word_is_told_by_its_place(rt: HostRuntime) -> Result<(), Fail> {
-        let rows = [
-            ("", 0),
-            ("show", 0),
-            ("test", 1),
-            ("test p/1 t", 1),
-            ("test p1", 2),
-            ("test p1 -t", 2),
-            ("test p1 t1 x", 3),
-        ];
-        for (text, place) in rows {
-            let words = words_of(rt.alloc(), text)?;
-            assert_eq!(rt; read_words(&words), Err(place), "{text}");
-        }
-        Ok(())
-    }
-
-    #[test]
-    fn a_test_has_a_plan_and_an_id(rt: HostRuntime) -> Result<(), Fail> {
-        let words = words_of(rt.alloc(), "test p1 t1")?;
-        let run = read_words(&words).ok().ok_or("refused")?;
-        assert_eq!(rt; run.op, Op::Testing);
-        assert_eq!(rt; run.plan.bytes(), b"p1".as_slice());
-        assert_eq!(rt; run.id.bytes(), b"t1".as_slice());
-        assert!(rt; !run.forced);
-        Ok(())
-    }
+    Ok(command_of(words, verb))
 }

@@ -7,3 +7,4 @@ pub mod SplitLaws
 pub mod SharedLaws
 pub mod HoldingLaws
 pub mod FaultLaws
+pub mod UniqueLaws

@@ -1,4 +1,4 @@
--- What the search for split classes notes on its way.
+-- What the searches for split classes and for shared datastores note on their way.
 use Rattle.std.specs.Prelude.{ℕ, ◌≡◌, ◌<◌, ◌↔◌, Bool, List, length, Contains, Some, slice_get, slice_index}
 use Rattle.dr_inventory.specs.declared.estate.Machine.{Machine}
 use Rattle.dr_inventory.specs.declared.estate.Estate.{Estate}
@@ -38,3 +38,25 @@ pub record IsMachineWithin (estate : Estate) (marks : List Bool) (machine : ℕ)
   pub row : Machine
   pub found : slice_get estate.machines machine ≡ Some row
   pub marked : (datastore : ℕ) → Contains row.datastores datastore → IsMarked marks datastore
+
+-- one of so many first groups has the datastore
+pub record IsInGroupBelow (estate : Estate) (count datastore : ℕ) : Type 0 where
+  pub group : ℕ
+  pub below : group < count
+  pub named : IsInGroup estate group datastore
+
+-- two of so many first groups have the datastore
+pub record IsSharedBelow (estate : Estate) (count datastore : ℕ) : Type 0 where
+  pub first : ℕ
+  pub second : ℕ
+  pub in_order : first < second
+  pub below : second < count
+  pub has_first : IsInGroup estate first datastore
+  pub has_second : IsInGroup estate second datastore
+
+-- exactly the datastores of so many first groups are marked as seen, and those that two of these have as shared
+pub record MarksBelow (estate : Estate) (count : ℕ) (seen shared : List Bool) : Type 0 where
+  pub one_seen : length seen ≡ length estate.datastores
+  pub one_shared : length shared ≡ length estate.datastores
+  pub in_one : (datastore : ℕ) → IsMarked seen datastore ↔ IsInGroupBelow estate count datastore
+  pub in_two : (datastore : ℕ) → IsMarked shared datastore ↔ IsSharedBelow estate count datastore

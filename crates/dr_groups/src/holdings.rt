@@ -102,7 +102,7 @@ fn first_fault(alloc: Global, estate: &Estate) -> Result<Option<GroupFault>, All
     if let Some((group, inside, outside)) = first_split(alloc, estate, &labels)? {
         return Ok(Some(GroupFault::NotClosed(group, inside, outside)));
     }
-    if let Some((datastore, first, second)) = first_shared(estate) {
+    if let Some((datastore, first, second)) = first_shared(alloc, estate)? {
         return Ok(Some(GroupFault::InTwo(datastore, first, second)));
     }
     Ok(None)

@@ -7,7 +7,7 @@ mod labels;
 pub mod laws;
 mod leaders;
 mod lists;
-mod marks;
+pub mod marks;
 mod shared;
 mod splits;
 #[cfg(test)]

@@ -1,6 +1,6 @@
 //! Marks: a flag for each number of a list.
 
-ghost use Rattle.std.specs.Prelude.{◌≡◌, ◌<◌, ◌^◌, ◌↔◌, ◌⊎◌, ℕ, length, Contains, IsTrue, IfOk};
+ghost use Rattle.std.specs.Prelude.{◌≡◌, ◌<◌, ◌^◌, ◌↔◌, ◌⊎◌, ℕ, length, Contains, IsTrue, IsNone, IfSome, IfOk};
 ghost use Rattle.dr_inventory.specs.Sound.{AllBelow};
 ghost use Rattle.dr_groups.specs.Marks.{IsMarked, ListsAscending};
 
@@ -24,6 +24,23 @@ pub fn mark_all(marks: &mut [bool], numbers: &[u32])
 {
     for number in numbers {
         marks[*number as usize] = true;
+    }
+}
+
+/// Marks those of these numbers that are marked in the other list, beside those that are marked.
+pub fn mark_again(marks: &mut [bool], others: &[bool], numbers: &[u32])
+    requires within { AllBelow (length marks.old) numbers.now }
+    requires others { AllBelow (length others.now) numbers.now }
+
+    ensures marked { (k : ℕ) → Contains numbers.now k → IsMarked others.now k → IsMarked marks.new k }
+    ensures kept { (k : ℕ) → IsMarked marks.old k → IsMarked marks.new k }
+    ensures no_others { (k : ℕ) → IsMarked marks.new k → IsMarked marks.old k ⊎ (Contains numbers.now k × IsMarked others.now k) }
+{
+    for number in numbers {
+        let i = *number as usize;
+        if others[i] {
+            marks[i] = true;
+        }
     }
 }
 
@@ -52,4 +69,20 @@ pub fn marked_numbers(alloc: Global, marks: &[bool]) -> Result<Vec<u32>, AllocEr
         }
     }
     Ok(numbers)
+}
+
+/// The least number that is marked.
+pub fn least_marked(marks: &[bool]) -> Option<u32>
+    requires { length marks.now < 2 ^ 32 }
+
+    ensures none { IsNone result → (k : ℕ) → ¬ IsMarked marks.now k }
+    ensures marked { IfSome result (λ least. IsMarked marks.now least) }
+    ensures least { IfSome result (λ least. (k : ℕ) → k < least → ¬ IsMarked marks.now k) }
+{
+    for (i, is_marked) in marks.iter().enumerate() {
+        if *is_marked {
+            return Some(i as u32);
+        }
+    }
+    None
 }

@@ -237,6 +237,27 @@ fn a_datastore_in_two_groups_is_told_with_both(rt: HostRuntime) -> Result<(), Fa
 }
 
 #[test]
+fn the_least_shared_datastore_is_told_with_its_two_least_groups(
+    rt: HostRuntime,
+) -> Result<(), Fail> {
+    let alloc = rt.alloc();
+    let mut text = String::new(alloc);
+    text.push_str("form = 1\n")?;
+    add_datastore(alloc, &mut text, "ds1", "\"d1\"")?;
+    add_datastore(alloc, &mut text, "ds2", "\"d2\"")?;
+    add_datastore(alloc, &mut text, "ds3", "\"d3\"")?;
+    add_group(alloc, &mut text, "g1", "\"ds3\", \"ds1\"")?;
+    add_group(alloc, &mut text, "g2", "\"ds3\"")?;
+    add_group(alloc, &mut text, "g3", "\"ds2\"")?;
+    add_group(alloc, &mut text, "g4", "\"ds3\", \"ds2\"")?;
+    assert_eq!(rt;
+        fault_of(alloc, text.as_str()),
+        Some(GroupFault::InTwo(1, 2, 3))
+    );
+    Ok(())
+}
+
+#[test]
 fn three_groups_hold_their_pairs_and_machines(rt: HostRuntime) -> Result<(), Fail> {
     let alloc = rt.alloc();
     let mut text = String::new(alloc);

@@ -1,9 +1,9 @@
 -- The estate of bytes, and all that is wrong with a table, in order.
-use Rattle.std.specs.Prelude.{ℕ, ◌≤◌, List, ◌++◌, filter, not, Some, length, ◌≡◌, ◌<◌, IsUtf8, Result, Err}
+use Rattle.std.specs.Prelude.{ℕ, ◌≤◌, ◌⊎◌, List, ◌++◌, filter, not, Some, length, ◌≡◌, ◌<◌, IsUtf8, Result, Ok, Err}
 use Rattle.toml.specs.Data.{Members}
 use Rattle.toml.specs.Parse.{parse_document}
 use Rattle.dr_base.specs.declared.estate_fault.EstateFault.{EstateFault}
-use Rattle.dr_base.specs.declared.estate_fault.EstateFault.TheVariants.{NotToml, Limit, NoMemory}
+use Rattle.dr_base.specs.declared.estate_fault.EstateFault.TheVariants.{NotToml, Limit}
 use Rattle.dr_base.specs.declared.estate_fault.Limit.TheVariants.{Bytes}
 use Rattle.dr_inventory.specs.declared.document.Document.{Document}
 use Rattle.dr_inventory.specs.declared.estate.Estate.{Estate}
@@ -39,9 +39,27 @@ pub record IsNoTable (bytes : List ℕ) : Type 0 where
   pub short : length bytes ≤ 4194304
   pub none : (t : Members) → ¬ IsTable bytes t
 
--- What a reading returns: too many bytes are told at once; that they are no table is told exactly then; else comes what their table gives. Only memory may run out.
-pub record Reads (bytes : List ℕ) (result : Result Estate EstateFault) : Type 0 where
-  pub long : 4194304 < length bytes → result ≡ Err (Limit Bytes 4194305)
-  pub no_table : IsNoTable bytes → ¬ (result ≡ Err NoMemory) → result ≡ Err NotToml
-  pub no_toml : result ≡ Err NotToml → IsNoTable bytes
-  pub table : length bytes ≤ 4194304 → (t : Members) → IsTable bytes t → ¬ (result ≡ Err NoMemory) → result ≡ reading t
+-- the bytes are few enough, and the text of a table that reads so
+pub record ReadsAs (bytes : List ℕ) (result : Result Estate EstateFault) : Type 0 where
+  pub short : length bytes ≤ 4194304
+  pub table : Members
+  pub is_table : IsTable bytes table
+  pub value : reading table ≡ result
+
+-- the bytes are the text of this estate, and nothing is wrong with them
+abbrev pub IsEstateText : List ℕ → Estate → Type 0
+IsEstateText bytes estate = ReadsAs bytes (Ok estate)
+
+-- the bytes are too many, which is told as soon as one too many was read
+pub record IsTooLong (bytes : List ℕ) (fault : EstateFault) : Type 0 where
+  pub long : 4194304 < length bytes
+  pub told : fault ≡ Limit Bytes 4194305
+
+-- the bytes are no table's text
+pub record IsNoTableFault (bytes : List ℕ) (fault : EstateFault) : Type 0 where
+  pub no_table : IsNoTable bytes
+  pub told : fault ≡ NotToml
+
+-- the first of all that is wrong with bytes: too many, no table, or what is wrong with their table
+abbrev pub IsTextFault : List ℕ → EstateFault → Type 0
+IsTextFault bytes fault = IsTooLong bytes fault ⊎ (IsNoTableFault bytes fault ⊎ ReadsAs bytes (Err fault))

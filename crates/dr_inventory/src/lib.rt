@@ -13,8 +13,7 @@ mod places;
 mod plans;
 mod read_error;
 mod reading;
-#[cfg(test)]
-mod samples;
+pub mod samples;
 mod tables;
 #[cfg(test)]
 mod tests;

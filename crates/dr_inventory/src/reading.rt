@@ -1,15 +1,17 @@
 //! Reading an estate: its form, then its rules.
 
-ghost use Rattle.std.specs.Prelude.{◌≡◌, map, flat_map, IfOk};
+ghost use Rattle.std.specs.Prelude.{◌≡◌, ◌≢◌, map, flat_map, IfOk, IfErr};
 ghost use Rattle.toml.specs.View.{table_view};
-ghost use Rattle.dr_base.specs.declared.estate_fault.EstateFault.TheVariants.{DeviceTwice, NotToml};
+ghost use Rattle.dr_base.specs.declared.estate_fault.EstateFault.TheVariants.{DeviceTwice, NotToml, NoMemory};
+ghost use Rattle.dr_base.specs.declared.estate_fault.EstateFault.{EstateFault as AnyFault};
+ghost use Rattle.dr_inventory.specs.declared.estate.Estate.{Estate as EstateValue};
 ghost use Rattle.dr_inventory.specs.declared.read_error.ReadError.TheVariants.{Fault};
 ghost use Rattle.dr_inventory.specs.Part.{IsUnlessMemory, first_or, is_of_shape};
 ghost use Rattle.dr_inventory.specs.Documents.{document};
 ghost use Rattle.dr_inventory.specs.Names.{twice_in};
 ghost use Rattle.dr_inventory.specs.Rules.{devices, consistency_devices, twice_faults, device_faults};
 ghost use Rattle.dr_inventory.specs.Numbers.{estate_of};
-ghost use Rattle.dr_inventory.specs.Estates.{form_faults, row_faults, Reads, reading};
+ghost use Rattle.dr_inventory.specs.Estates.{form_faults, row_faults, IsEstateText, IsTextFault, reading};
 ghost use Rattle.dr_inventory.specs.Sound.{IsSound};
 
 use crate::document::{ConsistencyEntry, Document, read_document};
@@ -139,8 +141,13 @@ fn read_table(alloc: Global, table: &Table) -> Result<Estate, ReadError>
 /// devices that are named twice, and counts above their limits; each the first in the document's
 /// order. `NoMemory` may come at any time.
 pub fn read_estate(alloc: Global, bytes: &[u8]) -> Result<Estate, EstateFault>
-    ensures reads { Reads bytes.now result }
+    ensures estate { IfOk result (IsEstateText bytes.now) }
+    ensures fault { IfErr result (λ found. found ≢ NoMemory → IsTextFault bytes.now found) }
     ensures sound { IfOk result IsSound }
+
+    // The other way: what is so is told, unless memory runs out.
+    ensures reads { (estate : EstateValue) → IsEstateText bytes.now estate → result ≢ Err NoMemory → result ≡ Ok estate }
+    ensures tells { (found : AnyFault) → IsTextFault bytes.now found → result ≢ Err NoMemory → result ≡ Err found }
 {
     if bytes.len() > MOST_BYTES {
         return Err(EstateFault::Limit(Limit::Bytes, 4_194_305));

@@ -1,3 +1,5 @@
+//! Two estates, for examples and for the tests of the crates above.
+
 /// Two machines on one datastore, with one plan.
 pub const SMALL: &str = r#"form = 1
 map = [

@@ -1,9 +1,28 @@
-//! Laws of the definitions. Each stands as the contract of a function that does nothing.
+//! Laws of the definitions. Each stands as the contract of a function that does nothing. A list of
+//! records that is lawful is that of a journal behind its Estate.
 
-ghost use Rattle.std.specs.Prelude.{◌≡◌, ℕ};
-ghost use Rattle.dr_outside.specs.declared.pair.Pair.{Pair};
-ghost use Rattle.dr_outside.specs.Pairs.{Drift, frame_of};
+ghost use Rattle.std.specs.Prelude.{◌≡◌, ◌≢◌, ◌↔◌, ◌<◌, ◌⊎◌, ℕ, Bool, true, false, List, [], ◌∷◌, Some, Contains, filter, map, slice_get};
+ghost use Rattle.std.specs.List.{list_any, AllByRecursion};
+ghost use Rattle.dr_base.specs.Sides.{same_side};
+ghost use Rattle.dr_outside.specs.BySide.{at};
+ghost use Rattle.dr_outside.specs.Pairs.{Drift, Made, Frame, frame_of};
+ghost use Rattle.dr_model.specs.Types.{Side as SideValue, Op as OpValue, Pair, Post as PostValue, Placed as PlacedValue, Estate as EstateValue, Plan as PlanValue, PlanMachine as MachineValue, ArrayCall, StageKind as KindValue, Record as RecordValue, StartRow};
 ghost use Rattle.dr_model.specs.Testing.{IsTestedPair, with_snapshot};
+ghost use Rattle.dr_model.specs.Worlds.{World};
+ghost use Rattle.dr_model.specs.Stages.{has, stage_at};
+ghost use Rattle.dr_model.specs.Visits.{Visit, visits, begun};
+ghost use Rattle.dr_model.specs.Runs.{Setting, Run, number, op, new, holds, stages_of, is_finished, is_open, run_at, last_of_group, take_in, add_record, runs_of, group_state};
+ghost use Rattle.dr_model.specs.Outcomes.{IsAsWanted};
+ghost use Rattle.dr_model.specs.Reach.{ReachFrame, ReachPost};
+ghost use Rattle.dr_model.specs.Meaning.{is_left, MeansFrame, MeansPost};
+ghost use Rattle.dr_model.specs.Lawful.{MayFinish, MayCome, LawfulAfter};
+ghost use Rattle.dr_model.specs.Expected.{wanted, ExpectedFrame, ExpectedPost};
+ghost use Rattle.dr_model.specs.Fits.{FitsPair};
+ghost use Rattle.dr_model.specs.InOrder.{is_ready, is_aside, is_start_up, InOrder};
+ghost use Rattle.dr_model.specs.Calls.{call_of, Called, CallsPairs};
+ghost use Rattle.dr_model.specs.Sound.{IsKept, IsSoundBy, IsSound};
+ghost use Rattle.dr_model.specs.Phases.{IsAtRest, AtRest, PostAtRest};
+ghost use Rattle.dr_model.specs.Backing.{HasRegularPlans, BacksPair, BacksDone, BacksStart, KeepsOrder, IsEntry, IsEarlier, IsPlain};
 
 /// Two drifts in a row are one, so what holds up to drift holds over any number of calls.
 pub fn drift_composes()
@@ -13,4 +32,145 @@ pub fn drift_composes()
 /// A finished test leaves a pair's frame as it was, with a snapshot of its run.
 pub fn tested_frame()
     ensures { (run : ℕ) (p q : Pair) → IsTestedPair run p q → frame_of q ≡ with_snapshot run (frame_of p) }
+{}
+
+/// A pair that fits still fits after a drift.
+pub fn drift_keeps_fit()
+    ensures { (p q : Pair) → Drift p q → (estate : EstateValue) (runs : List Run) (group k : ℕ) → FitsPair estate runs group k p → FitsPair estate runs group k q }
+{}
+
+/// A file that is sound with the outside stays so while pairs drift, and so do all images of a disk.
+pub fn drift_keeps_sound()
+    ensures { (world : World) (pairs : ℕ → Pair) → ((k : ℕ) → Drift (world.pair k) (pairs k)) →
+        (file : List ℕ) → IsSound world file → IsSound (record world { pair = pairs }) file }
+{}
+
+/// An open run is the last run of each of its groups.
+pub fn open_run_is_last()
+    ensures { (setting : Setting) (records : List RecordValue) (n group : ℕ) (run : Run) → LawfulAfter setting [] records →
+        run_at n (runs_of setting records) ≡ Some run → is_open run ≡ true → holds group run ≡ true → last_of_group group (runs_of setting records) ≡ Some run }
+{}
+
+/// A group whose runs are all finished has the frames of its state: in phase ready exactly the
+/// opening frame of the protected side.
+pub fn frames_by_state()
+    ensures { (setting : Setting) (records : List RecordValue) (group : ℕ) (y : Frame) → LawfulAfter setting [] records →
+        IsAtRest (filter (holds group) (runs_of setting records)) → ExpectedFrame setting.estate group (runs_of setting records) y →
+        AtRest (group_state setting.estate group (runs_of setting records)) y }
+{}
+
+/// And it has the posts of its state: in phase ready a placeholder at the other side and, unless a
+/// run left the machine, one in service at the protected side.
+pub fn posts_by_state()
+    ensures { (setting : Setting) (records : List RecordValue) (group machine : ℕ) (side : SideValue) (y : PostValue) → LawfulAfter setting [] records →
+        IsAtRest (filter (holds group) (runs_of setting records)) → ExpectedPost setting.estate group machine side (runs_of setting records) y →
+        PostAtRest machine (filter (holds group) (runs_of setting records)) side (group_state setting.estate group (runs_of setting records)) y }
+{}
+
+/// Under a test, migration or failover each post at the new side is a placeholder or stands as
+/// wanted.
+pub fn posts_stand_as_wanted()
+    ensures { (setting : Setting) (records : List RecordValue) (group machine : ℕ) (run : Run) (y : PostValue) → LawfulAfter setting [] records →
+        last_of_group group (runs_of setting records) ≡ Some run → is_start_up (op run) ≡ true →
+        ExpectedPost setting.estate group machine (new run) (runs_of setting records) y → IsAsWanted (wanted group run machine) y }
+{}
+
+/// Where a run may be finished, what it may have made of a frame is what it means.
+pub fn frames_are_meant()
+    ensures { (setting : Setting) (records : List RecordValue) (n : ℕ) (run : Run) (machines : List ℕ) → LawfulAfter setting [] records →
+        run_at n (runs_of setting records) ≡ Some run → MayFinish run machines → (x y : Frame) → ReachFrame run x y ↔ MeansFrame run x y }
+{}
+
+/// Where a run may be finished, what it may have made of a post of a machine that isn't left is what
+/// it means. At the old side of a failover that isn't forced it lies within that.
+pub fn posts_are_meant()
+    ensures within { (setting : Setting) (records : List RecordValue) (n : ℕ) (run : Run) (machines : List ℕ) → LawfulAfter setting [] records →
+        run_at n (runs_of setting records) ≡ Some run → MayFinish run machines → (m : MachineValue) → IsEntry run.plan m → (place : PlacedValue) (side : SideValue) (x y : PostValue) →
+        ReachPost run m.machine side place x y → MeansPost run m.machine side place x y }
+    ensures equal { (setting : Setting) (records : List RecordValue) (n : ℕ) (run : Run) (machines : List ℕ) → LawfulAfter setting [] records →
+        run_at n (runs_of setting records) ≡ Some run → MayFinish run machines → (m : MachineValue) → IsEntry run.plan m → (place : PlacedValue) (side : SideValue) →
+        (same_side side run.old ≡ true → op run ≡ OpValue.Failover → run.start.forced ≡ true) → is_left run m.machine ≡ false → (x y : PostValue) →
+        ReachPost run m.machine side place x y ↔ MeansPost run m.machine side place x y }
+{}
+
+/// A lawful Begin leaves each expected post expected: a start finds a placeholder, or the machine as
+/// it is wanted.
+pub fn begin_keeps_posts()
+    ensures { (setting : Setting) (records : List RecordValue) (n stage group machine : ℕ) (side : SideValue) (y : PostValue) → LawfulAfter setting [] records →
+        MayCome setting (runs_of setting records) (RecordValue.Begin n stage) → ExpectedPost setting.estate group machine side (runs_of setting records) y →
+        ExpectedPost setting.estate group machine side (add_record setting (runs_of setting records) (RecordValue.Begin n stage)) y }
+{}
+
+/// A lawful Attempt, Begin, Skip, Aside or Answer keeps the outside sound, and so does a Code that is
+/// kept.
+pub fn records_keep_sound()
+    ensures { (setting : Setting) (records : List RecordValue) (world : World) (item : RecordValue) → LawfulAfter setting [] records → IsPlain item →
+        MayCome setting (runs_of setting records) item → IsKept world item → IsSoundBy setting (runs_of setting records) world →
+        IsSoundBy setting (add_record setting (runs_of setting records) item) world }
+{}
+
+/// A Done keeps the outside sound, where the outside shows what it says.
+pub fn done_keeps_sound()
+    ensures { (setting : Setting) (records : List RecordValue) (world : World) (run : Run) (visit : Visit) (earlier : List Visit) (stage : ℕ) → LawfulAfter setting [] records →
+        run_at (number run) (runs_of setting records) ≡ Some run → is_open run ≡ true → visits run.log ≡ visit ∷ earlier → visit.done ≡ false →
+        BacksDone setting (runs_of setting records) world run visit → IsSoundBy setting (runs_of setting records) world →
+        IsSoundBy setting (add_record setting (runs_of setting records) (RecordValue.Done (number run) stage)) world }
+{}
+
+/// A lawful Finish keeps the outside sound.
+pub fn finish_keeps_sound()
+    ensures { (setting : Setting) (records : List RecordValue) (world : World) (n moment : ℕ) (machines : List ℕ) → LawfulAfter setting [] records → HasRegularPlans setting →
+        MayCome setting (runs_of setting records) (RecordValue.Finish n moment machines) → IsSoundBy setting (runs_of setting records) world →
+        IsSoundBy setting (add_record setting (runs_of setting records) (RecordValue.Finish n moment machines)) world }
+{}
+
+/// A lawful Start keeps the outside sound, where it gives no more writes of a pair than the pair has,
+/// and the outside has each machine of its plan.
+pub fn start_keeps_sound()
+    ensures { (setting : Setting) (records : List RecordValue) (world : World) (row : StartRow) → LawfulAfter setting [] records → HasRegularPlans setting →
+        MayCome setting (runs_of setting records) (RecordValue.Start row) → BacksStart setting (runs_of setting records) world row →
+        ((plan : PlanValue) (m : MachineValue) → slice_get setting.plans row.plan ≡ Some plan → Contains plan.machines m → m.machine < world.machine_count) →
+        IsSoundBy setting (runs_of setting records) world → IsSoundBy setting (add_record setting (runs_of setting records) (RecordValue.Start row)) world }
+{}
+
+/// A call of the begun stage, Ok or Failed, leads from a pair that fits to one that fits.
+pub fn call_keeps_fit()
+    ensures { (setting : Setting) (records : List RecordValue) (group : ℕ) (run : Run) (stage k : ℕ) (p q : Pair) → LawfulAfter setting [] records →
+        last_of_group group (runs_of setting records) ≡ Some run → is_finished run ≡ false → begun run.log ≡ Some stage →
+        FitsPair setting.estate (runs_of setting records) group k p → Called run (stage_at (stages_of run) stage).kind p q →
+        FitsPair setting.estate (runs_of setting records) group k q }
+{}
+
+/// A call of an open run's begun stage, Ok or Failed, keeps the outside sound, whichever of its pairs
+/// it made, if of one consistency group it made all or none.
+pub fn calls_keep_sound()
+    ensures { (setting : Setting) (records : List RecordValue) (run : Run) (stage : ℕ) (call : ArrayCall) (old now : World) → LawfulAfter setting [] records → HasRegularPlans setting →
+        run_at (number run) (runs_of setting records) ≡ Some run → is_open run ≡ true → begun run.log ≡ Some stage →
+        call_of run (stage_at (stages_of run) stage).kind ≡ Some call → CallsPairs setting.estate run call old now →
+        IsSoundBy setting (runs_of setting records) old → IsSoundBy setting (runs_of setting records) now }
+{}
+
+/// A pair that the begun stage's call made shows what the stage's Done says.
+pub fn made_pair_backs_done()
+    ensures { (setting : Setting) (records : List RecordValue) (group : ℕ) (run : Run) (visit : Visit) (earlier : List Visit) (world : World) (k : ℕ) (call : ArrayCall) (p : Pair) →
+        LawfulAfter setting [] records → last_of_group group (runs_of setting records) ≡ Some run → is_finished run ≡ false →
+        visits run.log ≡ visit ∷ earlier → visit.done ≡ false → FitsPair setting.estate (runs_of setting records) group k p →
+        call_of run (stage_at (stages_of run) visit.stage).kind ≡ Some call → Made call p (world.pair k) → BacksPair world run visit k }
+{}
+
+/// When a Start wave is begun, each machine of an earlier priority or depth is ready at the new side,
+/// or has an Aside.
+pub fn waves_start_in_order()
+    ensures { (setting : Setting) (records : List RecordValue) (group : ℕ) (run : Run) (visit : Visit) (earlier : List Visit) (m : MachineValue) (y : PostValue) →
+        LawfulAfter setting [] records → last_of_group group (runs_of setting records) ≡ Some run → is_finished run ≡ false → is_start_up (op run) ≡ true →
+        visits run.log ≡ visit ∷ earlier → (stage_at (stages_of run) visit.stage).kind ≡ KindValue.Start → IsEntry run.plan m →
+        IsEarlier m (stage_at (stages_of run) visit.stage) → ExpectedPost setting.estate group m.machine (new run) (runs_of setting records) y →
+        (is_ready y ≡ true) ⊎ (list_any (is_aside m.machine) run.log ≡ true) }
+{}
+
+/// Machines stay in order in each change in which nothing that they rest on is lost, and each that
+/// is started anew may be so.
+pub fn changes_keep_order()
+    ensures { (old now : World) (runs : List Run) →
+        ((group : ℕ) (run : Run) → last_of_group group runs ≡ Some run → AllByRecursion (λ h. last_of_group h runs ≡ Some run) run.start.groups → is_start_up (op run) ≡ true → KeepsOrder old now runs run) → InOrder old runs → InOrder now runs }
 {}

@@ -8,7 +8,8 @@ use Rattle.dr_outside.specs.declared.pair.Pair.{Pair}
 use Rattle.dr_outside.specs.BySide.{at}
 use Rattle.dr_outside.specs.Pairs.{is_live, is_target, Grows, Follows, Drift}
 
-grows_refl : (a b : Content) → b ≡ a → Grows a b
+-- the same content has grown
+pub grows_refl : (a b : Content) → b ≡ a → Grows a b
 grows_refl a b e = record { line = ap (λ c. c.line) e; base = ap (λ c. c.base) e; writes = omega (arith, ap (λ c. c.writes) e) }
 
 grows_trans : (a b c : Content) → Grows a b → Grows b c → Grows a c
@@ -24,7 +25,8 @@ Drift-refl p = record {
   frozen = λ side w t. refl;
 }
 
-source_is_no_target : (s : Side) (b : Bool) → (b && not (same_side s s)) ≡ false
+-- a source is no target, live or not
+pub source_is_no_target : (s : Side) (b : Bool) → (b && not (same_side s s)) ≡ false
 source_is_no_target A true = refl
 source_is_no_target A false = refl
 source_is_no_target B true = refl

@@ -2,6 +2,8 @@ pub mod Arrays
 pub mod BySide
 pub mod Commands
 pub mod Counts
+pub mod Decimals
+pub mod ExitCodes
 pub mod Machines
 pub mod Pairs
 pub mod PlainArrays

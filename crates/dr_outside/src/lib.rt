@@ -4,8 +4,11 @@
 
 mod array;
 mod clock;
+mod decimals;
+mod exit_codes;
 mod machine;
 mod pair;
+mod pair_list;
 mod plain_array;
 mod plain_port;
 mod port;
@@ -14,8 +17,11 @@ mod sides;
 
 pub use array::{Array, ArrayCall, ArrayFail};
 pub use clock::Clock;
+pub use decimals::read_decimal;
+pub use exit_codes::exit_code;
 pub use machine::{Kept, Placed, PortCall, PortFail, Post};
 pub use pair::{Content, Half, Link, Pair, Snapshot};
+pub use pair_list::{first_unfit, make_all, target_half};
 pub use plain_array::PlainArray;
 pub use plain_port::PlainPort;
 pub use port::Port;

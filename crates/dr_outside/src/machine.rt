@@ -1,3 +1,7 @@
+ghost use Rattle.std.specs.Prelude.{◌≡◌, true};
+ghost use Rattle.dr_outside.specs.Commands.{code_of};
+ghost use Rattle.dr_outside.specs.Machines.{is_ready_for, post_after};
+
 use dr_base::{Name, Placement, Side};
 
 /// A placement, in a test bubble or not.
@@ -29,6 +33,48 @@ pub struct Kept {
     pub name: Name,
     /// The side of a machine's command; `None` for a plan's.
     pub side: Option<Side>,
+}
+
+impl Post {
+    /// Whether it is as the call needs it.
+    pub fn is_ready_for(&self, call: &PortCall) -> bool
+        ensures { result ≡ is_ready_for call.now self.now }
+    {
+        match (call, self) {
+            (PortCall::Register(_), Post::Placeholder) => true,
+            (PortCall::Start, Post::Off(_) | Post::On(_)) => true,
+            (PortCall::Stop, Post::On(_) | Post::Ready(_)) => true,
+            (PortCall::Unregister, Post::Off(_)) => true,
+            _ => false,
+        }
+    }
+
+    /// What the call makes of it, which is as the call needs it.
+    pub fn after(&self, call: &PortCall) -> Post
+        requires { is_ready_for call.now self.now ≡ true }
+        ensures { result ≡ post_after call.now self.now }
+    {
+        match (call, self) {
+            (PortCall::Register(placed), _) => Post::Off(*placed),
+            (PortCall::Start, Post::Off(placed) | Post::On(placed)) => Post::Ready(*placed),
+            (PortCall::Stop, Post::On(placed) | Post::Ready(placed)) => Post::Off(*placed),
+            _ => Post::Placeholder,
+        }
+    }
+}
+
+impl Kept {
+    /// The code that is kept for a token.
+    pub fn code_of(kept: &[Kept], token: u64) -> Option<u8>
+        ensures { result ≡ code_of kept.now token }
+    {
+        for one in kept {
+            if one.token == token {
+                return Some(one.code);
+            }
+        }
+        None
+    }
 }
 
 /// A call that changes a post.

@@ -1,127 +1,17 @@
-ghost use Rattle.std.specs.Prelude.{◌≡◌, ℕ, ◌<◌, true, length, MatchOption, IfErr, IfOk, IfSome, if◌then◌else◌, Ok};
+ghost use Rattle.std.specs.Prelude.{◌≡◌, ◌<◌, true, length, IfErr, IfOk, IfSome, Ok};
 ghost use Rattle.dr_outside.specs.declared.array.ArrayCall.TheVariants.{Sync, TestStart, TestStop, Prepare, Failover, Reverse};
 ghost use Rattle.dr_outside.specs.declared.array.ArrayFail.TheVariants.{Failed};
-ghost use Rattle.dr_outside.specs.Pairs.{is_fit, made, may_fail, half, target};
-ghost use Rattle.dr_outside.specs.Arrays.{is_listed, IsPairList, IsFirstUnfit, NamesListed, has_part, ArrayRead, ArrayStep, ArrayCause};
+ghost use Rattle.dr_outside.specs.Pairs.{half};
+ghost use Rattle.dr_outside.specs.Arrays.{IsPairList, NamesListed, has_part, ArrayRead, ArrayStep, ArrayCause};
 ghost use Rattle.dr_outside.specs.PlainArrays.{PlainStep, pair_at, side_to_fail, opening_array, state_of, each_alone};
 
-use crate::{Array, ArrayCall, ArrayFail, Content, Half, Link, Pair, Sides, Snapshot};
+use crate::{
+    Array, ArrayCall, ArrayFail, Content, Half, Link, Pair, Sides, first_unfit, make_all,
+    target_half,
+};
 use dr_base::{NoMemory, Side};
 use std::alloc::Global;
 use std::marker::Model;
-
-// Whether a pair is as the call needs it.
-fn fits(call: ArrayCall, pair: &Pair) -> bool
-    ensures { result ≡ is_fit call pair.now }
-{
-    let live = pair.link == Link::Live;
-    let source_writable = pair.writable.at(pair.source);
-    let target_writable = pair.writable.at(pair.source.other());
-    match call {
-        ArrayCall::Sync => live,
-        ArrayCall::TestStart(_) => live && pair.snapshot.is_none(),
-        ArrayCall::TestStop => pair.snapshot.is_some(),
-        ArrayCall::Prepare => source_writable,
-        ArrayCall::Failover(_) => live && !target_writable,
-        ArrayCall::Reverse => !live && !source_writable && target_writable,
-    }
-}
-
-// What the call makes of a pair.
-fn make(call: ArrayCall, pair: &Pair) -> Pair
-    ensures { result ≡ made call pair.now }
-{
-    let old = *pair;
-    let source = old.source;
-    let target = source.other();
-    let behind = old.content.at(target);
-    match call {
-        ArrayCall::Sync => Pair {
-            content: old.content.put(target, old.content.at(source)),
-            ..old
-        },
-        ArrayCall::TestStart(run) => Pair {
-            snapshot: Some(Snapshot {
-                run,
-                content: behind,
-            }),
-            ..old
-        },
-        ArrayCall::TestStop => Pair {
-            snapshot: None,
-            ..old
-        },
-        ArrayCall::Prepare => Pair {
-            writable: old.writable.put(source, false),
-            ..old
-        },
-        ArrayCall::Failover(run) => Pair {
-            link: Link::Split,
-            writable: old.writable.put(target, true),
-            content: old.content.put(
-                target,
-                Content {
-                    line: run,
-                    base: behind.writes,
-                    writes: behind.writes,
-                },
-            ),
-            ..old
-        },
-        ArrayCall::Reverse => Pair {
-            source: target,
-            link: Link::Live,
-            content: old.content.put(
-                source,
-                Content {
-                    writes: behind.base,
-                    ..behind
-                },
-            ),
-            ..old
-        },
-    }
-}
-
-// The first pair of the list that isn't as the call needs it.
-fn first_unfit(call: ArrayCall, pairs: &[Pair], list: &[u32]) -> Option<u32>
-    requires { IsPairList (length pairs.now) list.now }
-    ensures { MatchOption result
-        ((j : ℕ) → is_listed list.now j ≡ true → is_fit call (pair_at pairs.now j) ≡ true)
-        (λ k. IsFirstUnfit call list.now (pair_at pairs.now) k) }
-{
-    for k in list {
-        if !fits(call, &pairs[*k as usize]) {
-            return Some(*k);
-        }
-    }
-    None
-}
-
-// Makes each pair of the list.
-fn make_all(call: ArrayCall, pairs: &mut [Pair], list: &[u32])
-    requires { IsPairList (length pairs.old) list.now }
-    ensures { (i : ℕ) → pair_at pairs.new i ≡
-        (if is_listed list.now i then made call (pair_at pairs.old i) else pair_at pairs.old i) }
-{
-    for k in list {
-        let place = *k as usize;
-        pairs[place] = make(call, &pairs[place]);
-    }
-}
-
-// Whether a fault of the call may be this side's, at one pair.
-fn may_fail_at(call: ArrayCall, pair: &Pair, side: Side) -> bool
-    ensures { result ≡ may_fail call pair.now side }
-{
-    match call {
-        ArrayCall::Sync | ArrayCall::Reverse => true,
-        ArrayCall::Prepare => side == pair.source,
-        ArrayCall::TestStart(_) | ArrayCall::TestStop | ArrayCall::Failover(_) => {
-            side == pair.source.other()
-        }
-    }
-}
 
 // Whether a fault of the call may be this side's.
 fn can_answer(call: ArrayCall, pairs: &[Pair], list: &[u32], side: Side) -> bool
@@ -129,7 +19,7 @@ fn can_answer(call: ArrayCall, pairs: &[Pair], list: &[u32], side: Side) -> bool
     ensures { result ≡ has_part call list.now (pair_at pairs.now) side }
 {
     for k in list {
-        if may_fail_at(call, &pairs[*k as usize], side) {
+        if pairs[*k as usize].can_fail_at(call, side) {
             return true;
         }
     }
@@ -154,28 +44,6 @@ fn listed_side(
         }
     }
     None
-}
-
-// A pair as one side shows it.
-fn half_of(pair: &Pair, side: Side) -> Half
-    ensures { result ≡ half side pair.now }
-{
-    Half {
-        source: pair.source,
-        link: pair.link,
-        writable: pair.writable.at(side),
-        content: pair.content.at(side),
-        snapshot: pair.snapshot,
-    }
-}
-
-// The pair of this number as its target shows it.
-fn target_half(pairs: &[Pair], k: u32) -> Half
-    requires { k < length pairs.now }
-    ensures { result ≡ half (target (pair_at pairs.now k)) (pair_at pairs.now k) }
-{
-    let pair = &pairs[k as usize];
-    half_of(pair, pair.source.other())
 }
 
 /// An array in memory. Each pair is a consistency group by itself. Its calls happen at once, and
@@ -279,7 +147,7 @@ impl Array for PlainArray {
         ensures seen { result ≡ Ok (half side (pair_at self.old.pairs i)) }
         ensures same { self.new ≡ self.old }
     {
-        Ok(half_of(&self.pairs[i as usize], side))
+        Ok(self.pairs[i as usize].shown_at(side))
     }
 
     fn sync(&mut self, list: &[u32]) -> Result<(), ArrayFail>
@@ -346,6 +214,7 @@ impl Array for PlainArray {
 #[cfg(test)]
 mod tests {
     use super::*;
+    use crate::Snapshot;
     use std::test::Fail;
 
     const FIRST: Half = Half {

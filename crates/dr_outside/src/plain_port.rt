@@ -8,50 +8,12 @@ ghost use Rattle.dr_outside.specs.BySide.{at};
 ghost use Rattle.dr_outside.specs.Counts.{one_more_at};
 ghost use Rattle.dr_outside.specs.Commands.{code_of};
 ghost use Rattle.dr_outside.specs.Arrays.{is_listed};
-ghost use Rattle.dr_outside.specs.Machines.{is_ready_for, post_after, PortStep, PortRead, PortCause, RanRead, CommandStep, NeverRan, NeverWrong};
+ghost use Rattle.dr_outside.specs.Machines.{PortStep, PortRead, PortCause, RanRead, CommandStep, NeverRan, NeverWrong};
 ghost use Rattle.dr_outside.specs.PlainPorts.{opening_placed, opening_port, state_of, Counted, is_to_fail, CallEnds, CommandEnds};
 
 use crate::{Kept, Placed, Port, PortCall, PortFail, Post, Sides};
 use dr_base::{Name, Path, Placement, Side};
 use std::marker::Model;
-
-// Whether a post is as the call needs it.
-fn fits(call: &PortCall, post: &Post) -> bool
-    ensures { result ≡ is_ready_for call.now post.now }
-{
-    match (call, post) {
-        (PortCall::Register(_), Post::Placeholder) => true,
-        (PortCall::Start, Post::Off(_) | Post::On(_)) => true,
-        (PortCall::Stop, Post::On(_) | Post::Ready(_)) => true,
-        (PortCall::Unregister, Post::Off(_)) => true,
-        _ => false,
-    }
-}
-
-// What the call makes of a post that is as it needs it.
-fn make(call: &PortCall, post: &Post) -> Post
-    requires { is_ready_for call.now post.now ≡ true }
-    ensures { result ≡ post_after call.now post.now }
-{
-    match (call, post) {
-        (PortCall::Register(placed), _) => Post::Off(*placed),
-        (PortCall::Start, Post::Off(placed) | Post::On(placed)) => Post::Ready(*placed),
-        (PortCall::Stop, Post::On(placed) | Post::Ready(placed)) => Post::Off(*placed),
-        _ => Post::Placeholder,
-    }
-}
-
-// The code that is kept for a token.
-fn kept_code(kept: &[Kept], token: u64) -> Option<u8>
-    ensures { result ≡ code_of kept.now token }
-{
-    for one in kept {
-        if one.token == token {
-            return Some(one.code);
-        }
-    }
-    None
-}
 
 // Whether the call of this number is to fail. If so, a fault of this side is counted.
 fn fails_now(fails: &[u64], number: u64, side: Side, faults: &mut Sides<u64>) -> bool
@@ -141,10 +103,10 @@ impl PlainPort {
             return Err(PortFail::Failed);
         }
         let found = self.post.at(side);
-        if !fits(call, &found) {
+        if !found.is_ready_for(call) {
             return Err(PortFail::Wrong(found));
         }
-        self.post = self.post.put(side, make(call, &found));
+        self.post = self.post.put(side, found.after(call));
         Ok(())
     }
 }
@@ -212,7 +174,7 @@ impl Port for PlainPort {
         ensures seen { result ≡ Ok (code_of self.old.kept token) }
         ensures same { self.new ≡ self.old }
     {
-        Ok(kept_code(&self.kept, token))
+        Ok(Kept::code_of(&self.kept, token))
     }
 
     fn command(&mut self, side: Side, token: u64, name: Name) -> Result<u8, PortFail>
@@ -226,7 +188,7 @@ impl Port for PlainPort {
         if fails_now(&self.fails, self.calls, side, &mut self.faults) {
             return Err(PortFail::Failed);
         }
-        if let Some(code) = kept_code(&self.kept, token) {
+        if let Some(code) = Kept::code_of(&self.kept, token) {
             return Err(PortFail::Ran(code));
         }
         let one = Kept {

@@ -1,5 +1,6 @@
 use crate::{Ended, desk};
 use dr_base::{MemSink, MemSource, Name, NoMemory, Path, Placement, Rows, Side};
+use dr_inventory::samples::SMALL;
 use dr_outside::{Array, Content, Half, Link, Placed, PlainArray, PlainPort, Port, Post, Snapshot};
 use std::alloc::Global;
 use std::process::Abort;
@@ -22,18 +23,20 @@ pub(super) struct Setting<'a> {
     pub(super) room: usize,
 }
 
-/// Two machines of two priorities on one pair, with as many ports and pairs, and no failing call.
-pub(super) const FIRST: Setting<'static> = Setting {
-    words: "test p1 t1",
-    input: b"pair d1\nmachine db 1 d1\nmachine web 3 d1\n",
-    pairs: 1,
-    array_fails: &[],
-    ports: 2,
-    port_fails: &[],
-    read_fails: &[],
-    write_fails: &[],
-    room: 1_024,
-};
+/// Two machines, web after db, on one pair, with as many ports and pairs, and no failing call.
+pub(super) fn first() -> Setting<'static> {
+    Setting {
+        words: "test p1 t1",
+        input: SMALL.as_bytes(),
+        pairs: 1,
+        array_fails: &[],
+        ports: 2,
+        port_fails: &[],
+        read_fails: &[],
+        write_fails: &[],
+        room: 1_024,
+    }
+}
 
 /// The snapshot of a test, from a source with 100 writes.
 pub(super) const SNAPSHOT: Option<Snapshot> = Some(Snapshot {
@@ -203,19 +206,19 @@ pub(super) fn pair_is(
     assert_eq!(rt; half(rt, array, pair, Side::B), at_b, "pair {pair}");
 }
 
-// A placement with one name in all its places, in a bubble or not.
-fn placed(rt: &impl Abort, name: &[u8], bubble: bool) -> Placed {
+// A placement of this network, folder and pool, in a bubble or not.
+fn placed(rt: &impl Abort, places: [&str; 3], bubble: bool) -> Placed {
     Placed {
         place: Placement {
-            network: Name::read(name).expect(rt, "a name"),
-            folder: Path::read(name).expect(rt, "a path"),
-            pool: Name::read(name).expect(rt, "a name"),
+            network: Name::read(places[0].as_bytes()).expect(rt, "a name"),
+            folder: Path::read(places[1].as_bytes()).expect(rt, "a path"),
+            pool: Name::read(places[2].as_bytes()).expect(rt, "a name"),
         },
         bubble,
     }
 }
 
-/// How a machine stands at B, where all but a placeholder are in a bubble in the lab.
+/// How a machine stands at B, where all but a placeholder are in a bubble, placed as the maps say.
 #[derive(Clone, Copy)]
 pub(super) enum Stand {
     Placeholder,
@@ -238,15 +241,25 @@ impl Stand {
 
 /// How a machine stands at A before any call.
 pub(super) fn opening_post(rt: &impl Abort) -> Post {
-    Post::Ready(placed(rt, b"A", false))
+    Post::Ready(placed(rt, ["A", "A", "A"], false))
 }
 
 /// The machines stand so at B, and at A as before any call.
 pub(super) fn machines_are<P: Port>(rt: &impl Abort, ports: &mut Vec<P>, at_b: &[Stand]) {
     assert_eq!(rt; ports.len(), at_b.len());
     for i in 0..ports.len() {
-        let post = at_b[i].post(placed(rt, b"lab", true));
+        let post = at_b[i].post(placed(rt, ["bubble-b", "dr", "gold-b"], true));
         assert_eq!(rt; ports[i].post(Side::B), Ok(post), "machine {i}");
         assert_eq!(rt; ports[i].post(Side::A), Ok(opening_post(rt)), "machine {i}");
     }
+}
+
+/// What stands before the first of these parts of a text, and what stands after it.
+pub(super) fn split_at_part<'a>(text: &'a [u8], part: &[u8]) -> Option<(&'a [u8], &'a [u8])> {
+    for place in 0..text.len() {
+        if let Some(rest) = text[place..].strip_prefix(part) {
+            return Some((&text[..place], rest));
+        }
+    }
+    None
 }

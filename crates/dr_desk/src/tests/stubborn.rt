@@ -1,7 +1,7 @@
 ghost use Rattle.std.specs.Prelude.{[]};
 ghost use Rattle.dr_outside.specs.BySide.{at};
 
-use super::setup::{FIRST, Stand, machines_are, make_scene_on, opening_post, run_answers};
+use super::setup::{Stand, first, machines_are, make_scene_on, opening_post, run_answers};
 use dr_base::{Name, Placement, Side};
 use dr_outside::{Placed, Port, PortFail, Post, Sides};
 use std::test::Fail;
@@ -68,11 +68,11 @@ fn a_failed_start_is_told_whatever_it_left(rt: HostRuntime) -> Result<(), Fail> 
             };
             assert!(rt; ports.push(port).is_ok());
         }
-        let mut scene = make_scene_on(rt.alloc(), &FIRST, ports)?;
+        let mut scene = make_scene_on(rt.alloc(), &first(), ports)?;
         run_answers(
             &rt,
             rt.alloc(),
-            FIRST.words,
+            first().words,
             &mut scene,
             6,
             "6 port fault db\n",

@@ -1,0 +1,79 @@
+-- What a command comes to, where nothing is wrong with the estate and its plans.
+use Rattle.std.specs.Prelude.{ℕ, Bool, false, not, ◌||◌, nat_lt, if◌then◌else◌, is_some, is_none, List, [], find, slice_get, bytes_eq, length, Option, Some, None}
+use Rattle.std.specs.List.{list_any}
+use Rattle.dr_base.specs.declared.side.Side.{Side}
+use Rattle.dr_base.specs.declared.side.Side.TheVariants.{B}
+use Rattle.dr_base.specs.Sides.{same_side}
+use Rattle.dr_base.specs.declared.command.Command.{Command}
+use Rattle.dr_base.specs.declared.command.Command.TheVariants.{Run, Preview, Groups}
+use Rattle.dr_base.specs.declared.command.RunWords.{RunWords}
+use Rattle.dr_base.specs.declared.refusal.Refusal.{Refusal}
+use Rattle.dr_base.specs.declared.refusal.Refusal.TheVariants.{UnknownPlan, NotBuilt, NoSlot}
+use Rattle.dr_base.specs.declared.refusal.SlotKind.TheVariants.{Machines, Pairs}
+use Rattle.dr_inventory.specs.declared.estate.GroupRow.{GroupRow}
+use Rattle.dr_inventory.specs.declared.estate.Estate.{Estate}
+use Rattle.dr_plan.specs.declared.plan.PlanMachine.{PlanMachine}
+use Rattle.dr_plan.specs.declared.plan.Plan.{Plan}
+use Rattle.dr_setting.specs.declared.setting.Setting.{Setting}
+use Rattle.dr_outside.specs.Arrays.{ArrayState}
+use Rattle.dr_testing.specs.Tests.{Site}
+
+-- the plan of this name
+abbrev pub plan_named : Setting → List ℕ → Option Plan
+plan_named setting name = find (λ p. bytes_eq p.name name) setting.plans
+
+-- whether a group's row protects B
+abbrev pub row_protects_b : Option GroupRow → Bool
+row_protects_b None = false
+row_protects_b (Some row) = same_side row.protects B
+
+-- whether this protection group protects B
+abbrev pub protects_b : Estate → ℕ → Bool
+protects_b estate group = row_protects_b (slice_get estate.groups group)
+
+-- whether a machine of a plan has a command
+abbrev pub has_command : PlanMachine → Bool
+has_command m = list_any is_some m.commands
+
+-- whether a test of the plan needs what isn't built yet: a custom step, a machine's command, or a group that protects B
+abbrev pub needs_unbuilt : Estate → Plan → Bool
+needs_unbuilt estate plan = is_some (slice_get plan.steps 0) || (list_any has_command plan.machines || list_any (protects_b estate) plan.groups)
+
+-- what a command may come to
+pub data Verdict : Type 0 where
+  -- it is refused
+  Refuse : (refusal : Refusal) → Verdict
+  -- the datastores are shown, with their datastore groups
+  ShowGroups : Verdict
+  -- the order of start-up of this plan is shown
+  ShowPlan : (plan : Plan) → Verdict
+  -- this plan is tested
+  Test : (plan : Plan) → Verdict
+
+-- a test of a plan that needs nothing unbuilt is refused where the site has too few machines for the estate, then where it has too few pairs
+abbrev pub slots_verdict : Estate → Plan → Site → Verdict
+slots_verdict estate plan site =
+    if nat_lt site.slots (length estate.machines) then Refuse (NoSlot Machines site.slots (length estate.machines))
+    else (if nat_lt site.array.count (length estate.devices) then Refuse (NoSlot Pairs site.array.count (length estate.devices)) else Test plan)
+
+-- a test under this name, of this plan
+abbrev pub test_verdict : Estate → List ℕ → Site → Option Plan → Verdict
+test_verdict estate name site None = Refuse (UnknownPlan name)
+test_verdict estate name site (Some plan) = if needs_unbuilt estate plan then Refuse (NotBuilt name) else slots_verdict estate plan site
+
+-- a preview under this name, of this plan
+abbrev pub preview_verdict : List ℕ → Option Plan → Verdict
+preview_verdict name None = Refuse (UnknownPlan name)
+preview_verdict name (Some plan) = ShowPlan plan
+
+-- what each command comes to; a run is a test, and other commands aren't read
+abbrev pub verdict : Estate → Setting → Site → Command → Verdict
+verdict estate setting site (Run run) = test_verdict estate run.plan site (plan_named setting run.plan)
+verdict estate setting site (Preview name) = preview_verdict name (plan_named setting name)
+verdict estate setting site _ = ShowGroups
+
+-- refusals that hold no number that must be the estate's
+abbrev pub IsPlainRefusal : Refusal → Type 0
+IsPlainRefusal (UnknownPlan name) = Unit {0}
+IsPlainRefusal (NotBuilt name) = Unit {0}
+IsPlainRefusal _ = ⊥

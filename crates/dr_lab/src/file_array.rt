@@ -1,0 +1,214 @@
+ghost use Rattle.std.specs.Prelude.{◌≡◌, ◌≤◌, IfErr};
+ghost use Rattle.dr_base.specs.declared.side.Side.{Side};
+ghost use Rattle.dr_base.specs.Causes.{Rose};
+ghost use Rattle.dr_outside.specs.BySide.{at};
+ghost use Rattle.dr_outside.specs.Counts.{one_more_at};
+ghost use Rattle.dr_outside.specs.Arrays.{ArrayCause, NamesListed};
+ghost use Rattle.dr_lab.specs.Opening.{untold_array};
+ghost use Rattle.dr_lab.specs.Counting.{ArrayCounts, fault_side, NamesOne};
+
+use crate::site_files::{read_pair_file, write_pair_file};
+use dr_base::{Failed, Side};
+use dr_outside::{Array, ArrayCall, ArrayFail, Half, Sides};
+use std::rt::Files;
+
+/// An array that keeps its pairs in files of the current folder, one for each pair. It counts the
+/// calls that fail, and tells nothing of its pairs.
+///
+/// A pair that has no file stands as it opens. A file that isn't in the form is a fault of each call
+/// that reads it, and stays as it is. The array knows no consistency groups: a call on a list looks
+/// at all its pairs first, then does one pair after the other, and where it fails it leaves those
+/// before as done.
+#[derive(Debug, Drop)]
+pub struct FileArray<F> {
+    rt: F,
+    pairs: u32,
+    faults: Sides<u64>,
+}
+
+// The side of a call's fault at a pair with this source.
+fn fault_side(call: ArrayCall, source: Side) -> Side
+    ensures { result ≡ fault_side call source }
+{
+    match call {
+        ArrayCall::Sync | ArrayCall::Prepare | ArrayCall::Reverse => source,
+        ArrayCall::TestStart(_) | ArrayCall::TestStop | ArrayCall::Failover(_) => source.other(),
+    }
+}
+
+// The side of a fault at a pair that can't be read: as if its source were A.
+fn blind_side(call: ArrayCall) -> Side
+    ensures { result ≡ fault_side call Side.A }
+{
+    fault_side(call, Side::A)
+}
+
+// The first pair of the list that isn't as the call needs it, and its target's half. Or the side of
+// a fault.
+fn first_unfit<F: Files>(rt: &F, call: ArrayCall, list: &[u32]) -> Result<Option<(u32, Half)>, Side>
+    ensures { NamesOne list.now result }
+{
+    for k in list {
+        match read_pair_file(rt, *k) {
+            Ok(pair) => {
+                if !pair.is_fit_for(call) {
+                    return Ok(Some((*k, pair.shown_at(pair.source.other()))));
+                }
+            }
+            Err(Failed) => return Err(blind_side(call)),
+        }
+    }
+    Ok(None)
+}
+
+// Makes a pair. One that isn't as the call needs it has changed since it was looked at. Or the side
+// of a fault.
+fn make<F: Files>(rt: &F, call: ArrayCall, k: u32) -> Result<(), Side> {
+    let Ok(pair) = read_pair_file(rt, k) else {
+        return Err(blind_side(call));
+    };
+    let side = fault_side(call, pair.source);
+    if !pair.is_fit_for(call) {
+        return Err(side);
+    }
+    match write_pair_file(rt, k, &pair.after(call)) {
+        Ok(()) => Ok(()),
+        Err(Failed) => Err(side),
+    }
+}
+
+// Makes one pair of the list after the other. Or the side of the first fault.
+fn make_each<F: Files>(rt: &F, call: ArrayCall, list: &[u32]) -> Result<(), Side> {
+    for k in list {
+        if let Err(side) = make(rt, call, *k) {
+            return Err(side);
+        }
+    }
+    Ok(())
+}
+
+impl<F: Files> FileArray<F> {
+    /// An array of so many pairs in the current folder.
+    pub fn new(rt: F, pairs: u32) -> FileArray<F>
+        ensures pairs { result.pairs ≡ pairs }
+        ensures faults { result.faults ≡ record { a = 0; b = 0 } }
+    {
+        FileArray {
+            rt,
+            pairs,
+            faults: Sides { a: 0, b: 0 },
+        }
+    }
+
+    // Counts a fault of this side.
+    fn failed(&mut self, side: Side) -> ArrayFail
+        ensures answer { result ≡ ArrayFail.Failed side }
+        ensures pairs { self.new.pairs ≡ self.old.pairs }
+        ensures count { self.new.faults ≡ one_more_at side self.old.faults }
+        ensures rose { Rose (at side self.old.faults) (at side self.new.faults) }
+        ensures later { (s : Side) → at s self.old.faults ≤ at s self.new.faults }
+    {
+        self.faults.raise(side);
+        ArrayFail::Failed(side)
+    }
+
+    // One call on a list of pairs.
+    fn run(&mut self, call: ArrayCall, list: &[u32]) -> Result<(), ArrayFail>
+        ensures listed { NamesListed list.now result }
+        ensures cause { ArrayCause (untold_array self.old.pairs self.old.faults)
+            (untold_array self.new.pairs self.new.faults) result }
+        ensures count { ArrayCounts self.old.faults self.new.faults result }
+    {
+        match first_unfit(&self.rt, call, list) {
+            Ok(Some((k, half))) => Err(ArrayFail::Wrong(k, half)),
+            Ok(None) => match make_each(&self.rt, call, list) {
+                Ok(()) => Ok(()),
+                Err(side) => Err(self.failed(side)),
+            },
+            Err(side) => Err(self.failed(side)),
+        }
+    }
+}
+
+impl<F: Files> Array for FileArray<F> {
+    ghost use Rattle.dr_lab.specs.Opening.{untold_array};
+
+    ghost tells = { ⊥ };
+
+    ghost state = { λ array. untold_array array.pairs array.faults };
+
+    ghost grouped = { λ array told. absurd told };
+
+    fn pairs(&self) -> u32
+        ensures { result ≡ self.now.pairs }
+    {
+        self.pairs
+    }
+
+    /// One look at the pair's file.
+    fn pair(&mut self, i: u32, side: Side) -> Result<Half, ArrayFail>
+        ensures only { IfErr result (λ e. e ≡ ArrayFail.Failed side) }
+        ensures cause { ArrayCause (untold_array self.old.pairs self.old.faults)
+            (untold_array self.new.pairs self.new.faults) result }
+        ensures count { ArrayCounts self.old.faults self.new.faults result }
+    {
+        match read_pair_file(&self.rt, i) {
+            Ok(pair) => Ok(pair.shown_at(side)),
+            Err(Failed) => Err(self.failed(side)),
+        }
+    }
+
+    fn sync(&mut self, list: &[u32]) -> Result<(), ArrayFail>
+        ensures listed { NamesListed list.now result }
+        ensures cause { ArrayCause (untold_array self.old.pairs self.old.faults)
+            (untold_array self.new.pairs self.new.faults) result }
+        ensures count { ArrayCounts self.old.faults self.new.faults result }
+    {
+        self.run(ArrayCall::Sync, list)
+    }
+
+    fn test_start(&mut self, run: u32, list: &[u32]) -> Result<(), ArrayFail>
+        ensures listed { NamesListed list.now result }
+        ensures cause { ArrayCause (untold_array self.old.pairs self.old.faults)
+            (untold_array self.new.pairs self.new.faults) result }
+        ensures count { ArrayCounts self.old.faults self.new.faults result }
+    {
+        self.run(ArrayCall::TestStart(run), list)
+    }
+
+    fn test_stop(&mut self, list: &[u32]) -> Result<(), ArrayFail>
+        ensures listed { NamesListed list.now result }
+        ensures cause { ArrayCause (untold_array self.old.pairs self.old.faults)
+            (untold_array self.new.pairs self.new.faults) result }
+        ensures count { ArrayCounts self.old.faults self.new.faults result }
+    {
+        self.run(ArrayCall::TestStop, list)
+    }
+
+    fn prepare(&mut self, list: &[u32]) -> Result<(), ArrayFail>
+        ensures listed { NamesListed list.now result }
+        ensures cause { ArrayCause (untold_array self.old.pairs self.old.faults)
+            (untold_array self.new.pairs self.new.faults) result }
+        ensures count { ArrayCounts self.old.faults self.new.faults result }
+    {
+        self.run(ArrayCall::Prepare, list)
+    }
+
+    fn failover(&mut self, run: u32, list: &[u32]) -> Result<(), ArrayFail>
+        ensures listed { NamesListed list.now result }
+        ensures cause { ArrayCause (untold_array self.old.pairs self.old.faults)
+            (untold_array self.new.pairs self.new.faults) result }
+        ensures count { ArrayCounts self.old.faults self.new.faults result }
+    {
+        self.run(ArrayCall::Failover(run), list)
+    }
+
+    fn reverse(&mut self, list: &[u32]) -> Result<(), ArrayFail>
+        ensures listed { NamesListed list.now result }
+        ensures cause { ArrayCause (untold_array self.old.pairs self.old.faults)
+            (untold_array self.new.pairs self.new.faults) result }
+        ensures count { ArrayCounts self.old.faults self.new.faults result }
+    {
+        self.run(ArrayCall::Reverse, list)
+    }
+}

@@ -1,0 +1,4 @@
+pub mod NearestLaws
+pub mod AboveLaws
+pub mod ListLaws
+pub mod ChoiceLaws

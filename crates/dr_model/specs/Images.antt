@@ -1,0 +1,30 @@
+-- What every image of a disk has: the records that are kept whatever a restart finds.
+use Rattle.std.specs.Prelude.{ℕ, ◌≤◌, List, ◌++◌, length}
+use Rattle.dr_model.specs.Types.{Record}
+use Rattle.dr_model.specs.Journals.{HasRecords}
+
+-- the records of each image begin with these
+abbrev pub BeginWith : (List ℕ → Type 0) → List Record → Type 0
+BeginWith images records = (file : List ℕ) → images file → (more : List Record) × HasRecords (records ++ more) file
+
+-- these are the longest with which each image begins: no image at all has none
+pub record AreKept (images : List ℕ → Type 0) (records : List Record) : Type 0 where
+  pub begin : BeginWith images records
+  pub longest : (longer : List Record) → BeginWith images longer → length longer ≤ length records
+
+-- what is kept at the start is kept at the end
+abbrev pub Keeps : (old new : List ℕ → Type 0) → Type 0
+Keeps old new = (records : List Record) → BeginWith old records → BeginWith new records
+
+-- so many records are kept at least
+abbrev pub IsAtMostKept : (List ℕ → Type 0) → ℕ → Type 0
+IsAtMostKept images n = (records : List Record) → AreKept images records → n ≤ length records
+
+-- so many records are kept at most
+abbrev pub IsAtLeastKept : (List ℕ → Type 0) → ℕ → Type 0
+IsAtLeastKept images n = (records : List Record) → AreKept images records → length records ≤ n
+
+-- exactly so many records are kept
+pub record IsKeptCount (images : List ℕ → Type 0) (n : ℕ) : Type 0 where
+  pub at_most : IsAtMostKept images n
+  pub at_least : IsAtLeastKept images n

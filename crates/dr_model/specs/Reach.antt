@@ -1,0 +1,56 @@
+-- What an open run may have made of a frame or a post so far.
+use Rattle.std.specs.Prelude.{◌≡◌, ℕ, Bool, ◌&&◌, not, List, [], ◌∷◌}
+use Rattle.std.specs.Bool.{MatchBool}
+use Rattle.dr_model.specs.Types.{Side, Op, Placed, Post, StageKind, Stage}
+use Rattle.dr_outside.specs.Pairs.{Frame}
+use Rattle.dr_base.specs.Sides.{other, same_side}
+use Rattle.dr_model.specs.Stages.{has, stage_at}
+use Rattle.dr_model.specs.Visits.{Visit, visits, all}
+use Rattle.dr_model.specs.Runs.{Run, op, stages_of}
+use Rattle.dr_model.specs.Outcomes.{made_frame, FrameOutcome, made_post, PostOutcome}
+
+-- y comes from x over these visits, newest first, one step for each
+abbrev pub Through : {X : Type 0} → (Visit → X → X → Type 0) → List Visit → X → X → Type 0
+Through Step [] x y = y ≡ x
+Through {X} Step (visit ∷ earlier) x y = (mid : X) × Through Step earlier x mid × Step visit mid y
+
+-- whether a visit is done, and doesn't excuse this machine, or all pairs
+abbrev pub is_complete : ℕ → Visit → Bool
+is_complete machine visit = visit.done && not (has visit.excused machine)
+
+-- a frame over one visit: a complete one leaves what the stage makes, any other one of its outcomes
+abbrev pub FrameStep : Run → Visit → Frame → Frame → Type 0
+FrameStep run visit x y =
+    let kind = (stage_at (stages_of run) visit.stage).kind in
+    MatchBool (is_complete all visit) (y ≡ made_frame run kind x) (FrameOutcome run kind x y)
+
+-- what the run may have made of a frame
+abbrev pub ReachFrame : Run → Frame → Frame → Type 0
+ReachFrame run x y = Through (FrameStep run) (visits run.log) x y
+
+-- the side at which machines are removed: after a test the new one, in a reprotect the old one
+abbrev pub side_of_clear : Op → (old : Side) → Side
+side_of_clear Op.Cleanup old = other old
+side_of_clear _ old = old
+
+-- the side at which a stage works machines: it starts them at the new side, and stops them at the old one
+abbrev pub side_of_wave : Op → (old : Side) → StageKind → Side
+side_of_wave op old StageKind.Start = other old
+side_of_wave op old StageKind.Clear = side_of_clear op old
+side_of_wave op old _ = old
+
+-- whether the stage works the machine at this side
+abbrev pub works : Run → Stage → ℕ → Side → Bool
+works run stage machine side = has stage.machines machine && same_side side (side_of_wave (op run) run.old stage.kind)
+
+-- a post over one visit: the same, where the stage works the machine at that side; any other stage leaves it
+abbrev pub PostStep : Run → ℕ → Side → Placed → Visit → Post → Post → Type 0
+PostStep run machine side wanted visit x y =
+    let stage = stage_at (stages_of run) visit.stage in
+    MatchBool (works run stage machine side)
+    (MatchBool (is_complete machine visit) (y ≡ made_post stage.kind wanted x) (PostOutcome stage.kind wanted x y))
+    (y ≡ x)
+
+-- what the run may have made of a machine's post at a side
+abbrev pub ReachPost : Run → ℕ → Side → Placed → Post → Post → Type 0
+ReachPost run machine side wanted x y = Through (PostStep run machine side wanted) (visits run.log) x y

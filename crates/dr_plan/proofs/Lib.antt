@@ -1,0 +1,13 @@
+pub mod ChainLaws
+pub mod WalkLaws
+pub mod CycleLaws
+pub mod DependentLaws
+pub mod WaveLaws
+pub mod DepthLaws
+pub mod FirstLaws
+pub mod LookupLaws
+pub mod PlanLaws
+pub mod FaultLaws
+pub mod OrderLaws
+pub mod WaveOrder
+pub mod UniqueLaws

@@ -1,0 +1,10 @@
+pub mod Cycles
+pub mod Walks
+pub mod Rows
+pub mod Faults
+pub mod Waves
+pub mod Plans
+pub mod Orders
+pub mod Lookups
+pub mod Lists
+pub mod Passing

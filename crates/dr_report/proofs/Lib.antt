@@ -1,0 +1,10 @@
+pub mod LineLaws
+pub mod WordLaws
+pub mod FieldLaws
+pub mod EstateFaultLaws
+pub mod GroupFaultLaws
+pub mod PlanFaultLaws
+pub mod RefusalLaws
+pub mod AnswerLaws
+pub mod OwnerLaws
+pub mod WaveLaws

@@ -1,0 +1,4 @@
+mod MissingLaws
+pub mod ReadingLaws
+pub mod UniqueLaws
+pub mod PlanFacts

@@ -1,0 +1,11 @@
+//! What the protection groups of an estate hold, and its plans: what a run stands on.
+#![tactic(auto)]
+
+mod missing;
+mod reading;
+mod setting;
+#[cfg(test)]
+mod tests;
+
+pub use reading::read_setting;
+pub use setting::{Setting, SettingFault};

@@ -1,0 +1,4 @@
+pub mod Ending
+pub mod Marking
+pub mod Posting
+pub mod Writing

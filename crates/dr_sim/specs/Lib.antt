@@ -1,0 +1,9 @@
+pub mod Arrays
+pub mod Commands
+pub mod Faults
+pub mod Groups
+pub mod Meters
+pub mod Openings
+pub mod Ports
+pub mod Production
+pub mod Runners

@@ -1,0 +1,4 @@
+mod arrays;
+mod faults;
+mod machines;
+mod samples;

@@ -1,0 +1,4 @@
+pub mod Storage
+pub mod Placing
+pub mod Starts
+pub mod Tests
