@@ -35,7 +35,7 @@ use Rattle.dr_model.proofs.LawSteps.{IsUnderWay, under_way, call_keeps_fit}
 
 -- A pair that serves a machine goes on to serve it --------------------------------------------------------------
 
-serves_drift : (o : Op) (n : ℕ) (p q : Pair) → Drift p q → IsServing o n p → IsServing o n q
+pub serves_drift : (o : Op) (n : ℕ) (p q : Pair) → Drift p q → IsServing o n p → IsServing o n q
 serves_drift Op.Testing n p q d h = ap (option_map (λ s. s.run)) d.snapshot ∙ h
 serves_drift _ n p q d h = ap (λ f. f.link) d.frame ∙ h
 
@@ -69,7 +69,7 @@ serves_work Op.Reprotect r n kind m up within may h = absurd cc
 
 -- A pair of a machine's datastores is one of its group --------------------------------------------------------------
 
-pair_of_group : (estate : Estate) (g m k : ℕ) → IsOfGroup estate g m → IsPairOfMachine estate m k → IsPairOf estate g k
+pub pair_of_group : (estate : Estate) (g m k : ℕ) → IsOfGroup estate g m → IsPairOfMachine estate m k → IsPairOf estate g k
 pair_of_group estate g m k of_group on =
     let same : Some on.on.row ≡ Some of_group.row = sym on.on.found ∙ of_group.found in
     let is : on.on.row ≡ of_group.row = cc in
@@ -145,7 +145,7 @@ module _ (setting : Setting) (records : List Record) (lawful : LawfulAfter setti
   -- machines of the last runs stay in order
   keeps_order : (g : ℕ) (run : Run) → last_of_group g runs ≡ Some run → Each (λ h. last_of_group h runs ≡ Some run) run.start.groups → is_start_up (op run) ≡ true → KeepsOrder old now runs run
   keeps_order g run last all_last up = record {
-    ready = λ m h. ap (λ f. is_ready_of (f m)) same_posts ∙ h;
+    ready = λ m named h. ap (λ f. is_ready_of (f m)) same_posts ∙ h;
     kept = λ m t h. ap (λ f. keeps (f m) t) same_kept ∙ h;
     runner = λ t h. ap (λ l. keeps l t) same_runner ∙ h;
     serving = serving;

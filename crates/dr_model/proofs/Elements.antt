@@ -1,6 +1,6 @@
 -- Elements of lists, and what holds of each.
-use Rattle.std.specs.Prelude.{◌≡◌, ℕ, zero, suc, ◌==◌, Bool, true, false, ◌||◌, List, [], ◌∷◌, Contains}
-use Rattle.std.proofs.Common.{refl, inl, inr, subst, arith}
+use Rattle.std.specs.Prelude.{◌≡◌, ℕ, zero, suc, ◌==◌, Bool, true, false, ◌||◌, List, [], ◌∷◌, Contains, cond, filter}
+use Rattle.std.proofs.Common.{refl, ap, ◌∙◌, inl, inr, subst, arith}
 use Rattle.std.proofs.lemmas.Bool.{eq-eqb, eqb-true}
 use Rattle.dr_model.specs.Stages.{has}
 use Rattle.dr_model.proofs.Lists.{Each, Some_of}
@@ -40,3 +40,13 @@ pub at-contains : {X : Type 0} (P : X → Type 0) (xs : List X) (x : X) → Each
 at-contains P [] x h (k, l, e) = absurd (omega arith)
 at-contains P (y ∷ ys) x h (zero, l, e) = subst P e h.0
 at-contains P (y ∷ ys) x h (suc k, l, e) = at-contains P ys x h.1 (k, omega arith, e)
+
+-- an element that passes is kept
+pub contains-filter : {X : Type 0} (p : X → Bool) (xs : List X) (x : X) → Contains xs x → p x ≡ true → Contains (filter p xs) x
+contains-filter p [] x (k, l, e) h = absurd (omega arith)
+contains-filter p (y ∷ ys) x (zero, l, e) h = let passes : p y ≡ true = ap p e ∙ h in rw passes (0, omega arith, e)
+contains-filter {X} p (y ∷ ys) x (suc k, l, e) h = go (p y) (contains-filter p ys x (k, omega arith, e) h)
+  where
+    go : (b : Bool) → Contains (filter p ys) x → Contains (cond b (y ∷ filter p ys) (filter p ys)) x
+    go true c = (suc c.0, omega (arith, c.1), c.2)
+    go false c = c

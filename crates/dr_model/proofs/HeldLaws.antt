@@ -42,10 +42,10 @@ made_link r StageKind.TestStop x ne within none = refl
 made_link r StageKind.Prepare x ne within none = refl
 made_link r _ x ne within none = refl
 
-abbrev NoSplit : Run → Visit → Type 0
+abbrev pub NoSplit : Run → Visit → Type 0
 NoSplit r u = is_of_kind StageKind.Split (stage_at (stages_of r) u.stage) ≡ false
 
-link_kept : (r : Run) → op r ≢ Op.Reprotect → (vs : List Visit) → Each (NoSplit r) vs → (x y : Frame) → Through (FrameStep r) vs x y → y.link ≡ x.link
+pub link_kept : (r : Run) → op r ≢ Op.Reprotect → (vs : List Visit) → Each (NoSplit r) vs → (x y : Frame) → Through (FrameStep r) vs x y → y.link ≡ x.link
 link_kept r ne [] none x y e = ap (λ f. f.link) e
 link_kept r ne (v ∷ vs) none x y (mid, reach, step) = go (incomplete_step r v mid y step) (link_kept r ne vs none.1 x mid reach)
   where

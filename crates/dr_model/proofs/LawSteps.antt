@@ -1,19 +1,20 @@
 -- The laws of runs as contracts name them: of a lawful list of records behind the Estate.
 use Rattle.std.specs.Prelude.{◌≡◌, ℕ, ◌<◌, ◌==◌, ◌⊎◌, Bool, true, false, List, [], ◌∷◌, Option, Some, None, IsSomeAnd, map, slice_get, Contains, if◌then◌else◌}
 use Rattle.std.proofs.Common.{refl, sym, ap, ◌∙◌, inl, inr, subst}
+use Rattle.dr_groups.specs.Groups.{IsPairOf}
 use Rattle.dr_outside.specs.BySide.{at}
 use Rattle.dr_outside.specs.Pairs.{frame_of, Drift, Made}
 use Rattle.dr_model.specs.Types.{Side, Link, ArrayCall, Pair, Placed, Post, Plan, PlanMachine, StageKind, StartRow, Record}
 use Rattle.dr_model.specs.StartUp.{is_started}
 use Rattle.dr_model.specs.Worlds.{World}
 use Rattle.dr_model.specs.Stages.{has, stage_at}
-use Rattle.dr_model.specs.Visits.{Visit, visits, open_stage, begun}
+use Rattle.dr_model.specs.Visits.{Visit, visits, open_stage, begun, all}
 use Rattle.dr_model.specs.Runs.{Setting, Run, number, new, stages_of, holds, is_finished, is_open, run_at, last_of_group, take_in, take_over, begin_run, add_record, runs_of}
 use Rattle.dr_model.specs.Outcomes.{made_frame}
 use Rattle.dr_model.specs.Lawful.{MayStart, MayFinish, MayCome, LawfulAfter}
 use Rattle.dr_model.specs.Fits.{FitsPair}
 use Rattle.dr_model.specs.InOrder.{is_start_up, InOrder}
-use Rattle.dr_model.specs.Calls.{call_of, Called}
+use Rattle.dr_model.specs.Calls.{call_of, Called, IsLeftOut, MadeBy, IsWorked}
 use Rattle.dr_model.specs.Sound.{IsKept, IsSoundBy}
 use Rattle.dr_model.specs.Backing.{IsRegularPlan, HasRegularPlans, IsEntry, IsPlain, Shows, BacksPair, BacksDone, BacksStart}
 use Rattle.dr_model.proofs.Lists.{Each, each-find}
@@ -27,6 +28,8 @@ use Rattle.dr_model.proofs.ShowLaws.{IsReplication}
 use Rattle.dr_model.proofs.FitsCall.{fits_at_call, made_at_call}
 use Rattle.dr_model.proofs.DoneFacts.{shown_after}
 use Rattle.dr_model.proofs.HeldLaws.{other_shows}
+use Rattle.dr_model.proofs.TookLaws.{TookFor, took-lawful}
+use Rattle.dr_model.proofs.LeftOut.{left_out_drifts, left_out_made, left_out_shows}
 use Rattle.dr_model.proofs.OrderStart.{asides-lawful, in_order-start, none_there}
 use Rattle.dr_model.proofs.SoundAppend.{plain_adds, sound-plain, sound-done, sound-finish}
 use Rattle.dr_model.proofs.LogLaws.{IsGoneThrough, gone-lawful}
@@ -77,6 +80,22 @@ module _ (setting : Setting) (records : List Record) (lawful : LawfulAfter setti
         go : (way : IsUnderWay r.log stage) → AtCall r (stage_of r way.visit).kind p q ⊎ Drift p q → FitsPair setting.estate runs g k q
         go way (inl call) = fits_at_call setting runs well ordered g r last going way.visit way.earlier way.shape way.undone k p q fits call
         go way (inr drift) = drift_fits p q drift setting.estate runs g k fits
+
+    -- a pair that the call of the last visit's stage left out backs its Done
+    pub left_out_backs : (v : Visit) (earlier : List Visit) → visits r.log ≡ v ∷ earlier → (w : World) (k : ℕ) (p : Pair) → FitsPair setting.estate runs g k p → IsLeftOut r (stage_at (stages_of r) v.stage).kind p → Drift p (w.pair k) → BacksPair w r v k
+    left_out_backs v earlier shape w k p fits out drift = record {
+      made = inr (left_out_made setting runs well ordered g took r last going v earlier shape k (w.pair k) now still);
+      shows = λ e. left_out_shows setting runs well ordered g took r last going v earlier shape k (w.pair k) now still;
+    }
+      where
+        took : TookFor g runs
+        took = took-lawful setting records lawful g
+
+        now : FitsPair setting.estate runs g k (w.pair k)
+        now = drift_fits p (w.pair k) drift setting.estate runs g k fits
+
+        still : IsLeftOut r (stage_of r v).kind (w.pair k)
+        still = left_out_drifts r (stage_of r v).kind p (w.pair k) drift out
 
     module _ (v : Visit) (earlier : List Visit) (shape : visits r.log ≡ v ∷ earlier) (undone : v.done ≡ false) (w : World) (k : ℕ) where
       sequence : IsInSequence r
@@ -147,3 +166,23 @@ plain_sound setting records w item lawful plain may kept s =
 -- a Done keeps the outside sound, where that shows what it says
 pub done_sound : (setting : Setting) (records : List Record) (w : World) (r : Run) (v : Visit) (earlier : List Visit) (stage : ℕ) → LawfulAfter setting [] records → run_at (number r) (runs_of setting records) ≡ Some r → is_open r ≡ true → visits r.log ≡ v ∷ earlier → v.done ≡ false → BacksDone setting (runs_of setting records) w r v → IsSoundBy setting (runs_of setting records) w → IsSoundBy setting (add_record setting (runs_of setting records) (Record.Done (number r) stage)) w
 done_sound setting records w r v earlier stage lawful at_n going shape undone = sound-done setting records w lawful r stage at_n going v earlier shape undone
+
+-- where the begun stage's calls left out or made each pair of the run's groups, or all pairs were skipped, the pairs back its Done
+pub worked_back : (setting : Setting) (records : List Record) → (r : Run) (v : Visit) (earlier : List Visit) (old now : World) → LawfulAfter setting [] records → is_finished r ≡ false → visits r.log ≡ v ∷ earlier → v.done ≡ false → IsSoundBy setting (runs_of setting records) old → now.pair_count ≡ old.pair_count → (has v.excused all ≡ false → (g p : ℕ) → IsPairOf setting.estate g p → p < now.pair_count → last_of_group g (runs_of setting records) ≡ Some r → IsWorked r (stage_at (stages_of r) v.stage).kind (old.pair p) (now.pair p)) → (g p : ℕ) → IsPairOf setting.estate g p → p < now.pair_count → last_of_group g (runs_of setting records) ≡ Some r → BacksPair now r v p
+worked_back setting records r v earlier old now lawful going shape undone s count worked g p of_group within last =
+    by_skip (has v.excused all) refl
+  where
+    fits : FitsPair setting.estate (runs_of setting records) g p (old.pair p)
+    fits = s.pairs g p of_group (subst (λ n. p < n) count within)
+
+    by_call : (o : Option ArrayCall) → call_of r (stage_at (stages_of r) v.stage).kind ≡ o → MadeBy o (old.pair p) (now.pair p) → BacksPair now r v p
+    by_call None e made = elim made [ ]
+    by_call (Some call) e made = made_backs setting records lawful g r last going v earlier shape undone now p call (old.pair p) fits e made
+
+    go : IsWorked r (stage_at (stages_of r) v.stage).kind (old.pair p) (now.pair p) → BacksPair now r v p
+    go (inl (out, drift)) = left_out_backs setting records lawful g r last going v earlier shape now p (old.pair p) fits out drift
+    go (inr made) = by_call (call_of r (stage_at (stages_of r) v.stage).kind) refl made
+
+    by_skip : (b : Bool) → has v.excused all ≡ b → BacksPair now r v p
+    by_skip true e = record { made = inl e; shows = λ f. absurd (let wrong : true ≡ false = sym e ∙ f in cc) }
+    by_skip false e = go (worked e g p of_group within last)

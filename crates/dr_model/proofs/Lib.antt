@@ -31,6 +31,7 @@ pub mod OrderLaws
 pub mod OrderStart
 pub mod ReadyLaws
 pub mod FinishLaws
+pub mod StageOrder
 pub mod WaveOrder
 pub mod EqualLaws
 pub mod MeaningLaws
@@ -44,11 +45,19 @@ pub mod FitsCall
 pub mod DoneFacts
 pub mod HeldLaws
 pub mod TookLaws
+pub mod LeftOut
 pub mod ServingLaws
 pub mod SoundDrift
 pub mod SoundAppend
 pub mod SoundStart
 pub mod Regular
+pub mod Declared
 pub mod LawSteps
 pub mod Examples
 pub mod CallSound
+pub mod StepOrder
+pub mod WaveEntries
+pub mod CalloutLaws
+pub mod MayRunLaws
+pub mod TakenLaws
+pub mod MachineSound

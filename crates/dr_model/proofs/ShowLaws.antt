@@ -28,7 +28,7 @@ no_prepare : (kind : StageKind) → IsReplication kind → kind ≡ StageKind.Pr
 no_prepare kind (inl e) is = let wrong : StageKind.Sync ≡ StageKind.Prepare = sym e ∙ is in cc
 no_prepare kind (inr e) is = let wrong : StageKind.FinalSync ≡ StageKind.Prepare = sym e ∙ is in cc
 
-starts_recovery : (o : Op) → is_recovery o ≡ true → is_start_up o ≡ true
+pub starts_recovery : (o : Op) → is_recovery o ≡ true → is_start_up o ≡ true
 starts_recovery Op.Migrate e = refl
 starts_recovery Op.Failover e = refl
 starts_recovery Op.Testing e = absurd cc

@@ -56,14 +56,29 @@ each-recovery P plan callouts starts stops sync prepare final_sync split = (
       (prepare, (final_sync, (split, each-start_up P plan callouts starts))),
 )
 
+-- a property of all that an operation with start-up does, by that of the start-up
+pub each-stages : (P : Stage → Type 0) (plan : Plan) (o : Op) (forced : Bool) → is_start_up o ≡ true → Each P (start_up plan) → ((s : Stage) → s.kind ≡ StageKind.Stop → P s) → ((kind : StageKind) → P (array_stage kind)) → Each P (stages plan o forced)
+each-stages P plan o forced is starts stops arrays = go o forced is
+  where
+    recovers : Each P (recovery plan)
+    recovers = (
+      arrays StageKind.Sync,
+      each-append P (wind_down StageKind.Stop plan) _
+          (each-map (IsWave StageKind.Stop) P stops _ (wind_down-kind StageKind.Stop plan))
+          (arrays StageKind.Prepare, (arrays StageKind.FinalSync, (arrays StageKind.Split, starts))),
+    )
+
+    go : (o : Op) (forced : Bool) → is_start_up o ≡ true → Each P (stages plan o forced)
+    go Op.Testing forced e = (arrays StageKind.Sync, (arrays StageKind.TestStart, starts))
+    go Op.Migrate forced e = recovers
+    go Op.Failover false e = recovers
+    go Op.Failover true e = (arrays StageKind.Split, starts)
+    go Op.Cleanup forced e = absurd cc
+    go Op.Reprotect forced e = absurd cc
+
 -- a property of all that an operation with start-up does
 pub each-start_up_op : (P : Stage → Type 0) (plan : Plan) (o : Op) (forced : Bool) → is_start_up o ≡ true → ((s : Stage) → IsCallout s → P s) → ((s : Stage) → s.kind ≡ StageKind.Start → P s) → ((s : Stage) → s.kind ≡ StageKind.Stop → P s) → ((kind : StageKind) → P (array_stage kind)) → Each P (stages plan o forced)
-each-start_up_op P plan Op.Testing forced is callouts starts stops arrays = (arrays StageKind.Sync, (arrays StageKind.TestStart, each-start_up P plan callouts starts))
-each-start_up_op P plan Op.Migrate forced is callouts starts stops arrays = each-recovery P plan callouts starts stops (arrays StageKind.Sync) (arrays StageKind.Prepare) (arrays StageKind.FinalSync) (arrays StageKind.Split)
-each-start_up_op P plan Op.Failover false is callouts starts stops arrays = each-recovery P plan callouts starts stops (arrays StageKind.Sync) (arrays StageKind.Prepare) (arrays StageKind.FinalSync) (arrays StageKind.Split)
-each-start_up_op P plan Op.Failover true is callouts starts stops arrays = (arrays StageKind.Split, each-start_up P plan callouts starts)
-each-start_up_op P plan Op.Cleanup forced is callouts starts stops arrays = absurd cc
-each-start_up_op P plan Op.Reprotect forced is callouts starts stops arrays = absurd cc
+each-start_up_op P plan o forced is callouts starts stops arrays = each-stages P plan o forced is (each-start_up P plan callouts starts) stops arrays
 
 -- a property of all that a cleanup or a reprotect does
 pub each-clear_op : (P : Stage → Type 0) (plan : Plan) (o : Op) (forced : Bool) → is_start_up o ≡ false → ((s : Stage) → s.kind ≡ StageKind.Clear → P s) → ((kind : StageKind) → P (array_stage kind)) → Each P (stages plan o forced)

@@ -102,16 +102,16 @@ module _ (w z : World) (runs : List Run) (run : Run) (h : KeepsOrder w z runs ru
 
   may_run_grows : (m : PlanMachine) → Contains run.plan.machines m → MayRun w run m → MayRun z run m
   may_run_grows m listed r = record {
-    dependencies = each-map (λ d. IsTrue (is_ready_at_new w run d)) (λ d. IsTrue (is_ready_at_new z run d)) h.ready m.after r.dependencies;
-    priorities = each-map (λ q. q.priority < m.priority → (is_ready_at_new w run q.machine ≡ true) ⊎ (list_any (is_aside q.machine) run.log ≡ true)) (λ q. q.priority < m.priority → (is_ready_at_new z run q.machine ≡ true) ⊎ (list_any (is_aside q.machine) run.log ≡ true)) (λ q f below. ready q (f below)) run.plan.machines r.priorities;
+    dependencies = each-contains (λ d. IsTrue (is_ready_at_new z run d)) m.after (λ d after. h.ready d (m, listed, inr after) (at-contains (λ d. IsTrue (is_ready_at_new w run d)) m.after d r.dependencies after));
+    priorities = each-contains (λ q. q.priority < m.priority → (is_ready_at_new z run q.machine ≡ true) ⊎ (list_any (is_aside q.machine) run.log ≡ true)) run.plan.machines (λ q in_plan below. ready q in_plan (at-contains (λ q. q.priority < m.priority → (is_ready_at_new w run q.machine ≡ true) ⊎ (list_any (is_aside q.machine) run.log ≡ true)) run.plan.machines q r.priorities in_plan below));
     commands = each-map (λ t. IsTrue (keeps (w.kept m.machine) t)) (λ t. IsTrue (keeps (z.kept m.machine) t)) (h.kept m.machine) _ r.commands;
     steps = steps_grow m.priority 1 run.plan.steps r.steps;
     serving = λ p on. h.serving m p listed on (r.serving p on);
   }
     where
-      ready : (q : PlanMachine) → (is_ready_at_new w run q.machine ≡ true) ⊎ (list_any (is_aside q.machine) run.log ≡ true) → (is_ready_at_new z run q.machine ≡ true) ⊎ (list_any (is_aside q.machine) run.log ≡ true)
-      ready q (inl e) = inl (h.ready q.machine e)
-      ready q (inr e) = inr e
+      ready : (q : PlanMachine) → Contains run.plan.machines q → (is_ready_at_new w run q.machine ≡ true) ⊎ (list_any (is_aside q.machine) run.log ≡ true) → (is_ready_at_new z run q.machine ≡ true) ⊎ (list_any (is_aside q.machine) run.log ≡ true)
+      ready q in_plan (inl e) = inl (h.ready q.machine (q, in_plan, inl refl) e)
+      ready q in_plan (inr e) = inr e
 
 -- A change of the outside in which each machine that runs anew may, keeps all in order.
 pub in_order-grows : (w z : World) (runs : List Run) → ((g : ℕ) (run : Run) → last_of_group g runs ≡ Some run → Each (λ h. last_of_group h runs ≡ Some run) run.start.groups → is_start_up (op run) ≡ true → KeepsOrder w z runs run) → InOrder w runs → InOrder z runs

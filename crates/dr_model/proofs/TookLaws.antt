@@ -52,14 +52,14 @@ took-take_in g runs item r t at_n going kept = go (holds g r) refl
 
 -- being taken over
 
-as_taken_over : (row : StartRow) (q : Run) → as_taken (take_over row q) ≡ as_taken q
+pub as_taken_over : (row : StartRow) (q : Run) → as_taken (take_over row q) ≡ as_taken q
 as_taken_over row q = go ((number q == row.over) && (q.by == 0))
   where
     go : (b : Bool) → as_taken (cond b (record q { by = row.run }) q) ≡ as_taken q
     go true = refl
     go false = refl
 
-took_take_over : (row : StartRow) (q : Run) → (take_over row q).took ≡ q.took
+pub took_take_over : (row : StartRow) (q : Run) → (take_over row q).took ≡ q.took
 took_take_over row q = go ((number q == row.over) && (q.by == 0))
   where
     go : (b : Bool) → (cond b (record q { by = row.run }) q).took ≡ q.took

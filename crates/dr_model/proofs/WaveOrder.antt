@@ -1,51 +1,28 @@
 -- Start waves stand by priority, then by depth.
-use Rattle.std.specs.Prelude.{◌≡◌, ℕ, zero, suc, ◌+◌, ◌<◌, ◌≤◌, ◌⊎◌, Bool, true, false, List, [], ◌∷◌, ◌++◌, map, flat_map}
+use Rattle.std.specs.Prelude.{◌≡◌, ℕ, zero, suc, ◌+◌, ◌<◌, ◌≤◌, ◌⊎◌, Bool, true, List, [], ◌∷◌, ◌++◌, map, flat_map}
 use Rattle.std.specs.List.{range_with_len}
 use Rattle.std.proofs.Common.{refl, sym, ap, ◌∙◌, inl, inr, arith, subst}
 use Rattle.std.proofs.lemmas.Bool.{eq-eqb, ne_eqb, cases_eq, cases_lt}
 use Rattle.dr_model.specs.Types.{Op, PlanMachine, Plan, Wave, StageKind, Stage}
 use Rattle.std.proofs.lemmas.List.{map-append}
-use Rattle.dr_plan.specs.Waves.{above, machines_at, wave_of, wave_at, waves_at, priorities}
-use Rattle.dr_model.specs.Stages.{has, array_stage, recovery, stages, wave_stage, start_priority, steps_before, start_up, wind_down, stage_from}
+use Rattle.dr_plan.specs.Waves.{above, machines_at, wave_of, wave_at, priorities}
+use Rattle.dr_model.specs.Stages.{has, stages, start_priority, steps_before, start_up, stage_from}
 use Rattle.dr_model.specs.InOrder.{is_start_up}
 pub use Rattle.dr_model.specs.Backing.{IsEarlier}
 use Rattle.dr_model.proofs.Lists.{Each, each-append, each-map, Some_of, some_of-right, some_of-flat_map}
-use Rattle.dr_model.proofs.StageLaws.{IsCallout, IsWave, IsMachineOf, priorities-has, wind_down-kind, steps_before-kind, wave-has, range-has, depth-below, stage_from-each}
+use Rattle.dr_model.proofs.StageOrder.{started, some_of-stages, IsSortedBy, sorted-append, sorted_numbers, stages_sorted}
+use Rattle.dr_model.proofs.StageLaws.{IsMachineOf, priorities-has, wave-has, range-has, depth-below}
 
 -- two Start waves, one not after the other
 abbrev pub NotAfter : Stage → Stage → Type 0
 NotAfter s t = s.kind ≡ StageKind.Start → t.kind ≡ StageKind.Start → (s.priority < t.priority) ⊎ ((s.priority ≡ t.priority) × (s.depth ≤ t.depth))
 
-abbrev pub IsSorted : List Stage → Type 0
-IsSorted [] = Unit {0}
-IsSorted (s ∷ rest) = Each (NotAfter s) rest × IsSorted rest
-
-sorted-append : (xs ys : List Stage) → IsSorted xs → IsSorted ys → Each (λ x. Each (NotAfter x) ys) xs → IsSorted (xs ++ ys)
-sorted-append [] ys hx hy between = hy
-sorted-append (x ∷ xs) ys hx hy between = (each-append (NotAfter x) xs ys hx.0 between.0, sorted-append xs ys hx.1 hy between.1)
-
-abbrev StartsNothing : Stage → Type 0
-StartsNothing s = s.kind ≡ StageKind.Start → ⊥
-
--- before anything, what starts nothing
-all_after : (s : Stage) → StartsNothing s → (ys : List Stage) → Each (NotAfter s) ys
-all_after s h [] = tt
-all_after s h (y ∷ ys) = (λ k l. absurd (h k), all_after s h ys)
-
-sorted-quiet : (xs ys : List Stage) → Each StartsNothing xs → IsSorted ys → IsSorted (xs ++ ys)
-sorted-quiet [] ys h s = s
-sorted-quiet (x ∷ xs) ys h s = (all_after x h.0 (xs ++ ys), sorted-quiet xs ys h.1 s)
+abbrev IsSorted : List Stage → Type 0
+IsSorted ss = IsSortedBy NotAfter ss
 
 -- a wave's place
 abbrev FromDepth : ℕ → ℕ → Stage → Type 0
 FromDepth p d s = (s.priority ≡ p) × (d ≤ s.depth)
-
-abbrev FromPriority : ℕ → Stage → Type 0
-FromPriority p s = s.kind ≡ StageKind.Start → p ≤ s.priority
-
--- the Start stage of a wave
-abbrev started : Wave → Stage
-started w = wave_stage StageKind.Start w
 
 wave_stage-place : (p d : ℕ) (ms : List ℕ) → Each (λ s. (s.priority ≡ p) × (s.depth ≡ d)) (map started (wave_of p d ms))
 wave_stage-place p d [] = tt
@@ -77,91 +54,16 @@ module _ (machines : List PlanMachine) (p : ℕ) where
   waves_from-sorted a zero = tt
   waves_from-sorted a (suc n) =
       subst IsSorted (sym (next_waves a n))
-      (sorted-append (first_waves a) (waves_from (a + 1) n) (wave_stage-sorted p a (machines_at machines p a)) (waves_from-sorted (a + 1) n)
+      (sorted-append NotAfter (first_waves a) (waves_from (a + 1) n) (wave_stage-sorted p a (machines_at machines p a)) (waves_from-sorted (a + 1) n)
       (each-map (λ s. (s.priority ≡ p) × (s.depth ≡ a)) (λ s. Each (NotAfter s) (waves_from (a + 1) n))
       (λ s h. each-map (FromDepth p (a + 1)) (NotAfter s) (λ t k x y. inr (h.0 ∙ sym k.0, omega (arith, h.1, k.1))) (waves_from (a + 1) n) (waves_from-place (a + 1) n))
       _ (wave_stage-place p a (machines_at machines p a))))
 
-quiet_callout : (s : Stage) → IsCallout s → StartsNothing s
-quiet_callout s (inl e, none) k = let wrong : StageKind.Command ≡ StageKind.Start = sym e ∙ k in cc
-quiet_callout s (inr e, none) k = let wrong : StageKind.Prompt ≡ StageKind.Start = sym e ∙ k in cc
-
-module _ (plan : Plan) where
-  abbrev block : ℕ → List Stage
-  block p = start_priority plan p
-
-  quiet_steps : (p : ℕ) → Each StartsNothing (steps_before p 1 plan.steps)
-  quiet_steps p = each-map IsCallout StartsNothing quiet_callout _ (steps_before-kind p 1 plan.steps)
-
-  block-place : (p : ℕ) → Each (λ s. s.kind ≡ StageKind.Start → s.priority ≡ p) (block p)
-  block-place p =
-      each-append (λ s. s.kind ≡ StageKind.Start → s.priority ≡ p) (steps_before p 1 plan.steps) _
-      (each-map StartsNothing (λ s. s.kind ≡ StageKind.Start → s.priority ≡ p) (λ s h k. absurd (h k)) _ (quiet_steps p))
-      (each-map (FromDepth p 0) (λ s. s.kind ≡ StageKind.Start → s.priority ≡ p) (λ s h k. h.0) _ (waves_from-place plan.machines p 0 (above (map (λ m. m.depth) plan.machines))))
-
-  block-sorted : (p : ℕ) → IsSorted (block p)
-  block-sorted p = sorted-quiet (steps_before p 1 plan.steps) (map started (waves_at plan.machines p)) (quiet_steps p) (waves_from-sorted plan.machines p 0 (above (map (λ m. m.depth) plan.machines)))
-
-  abbrev blocks : ℕ → ℕ → List Stage
-  blocks a n = flat_map block (range_with_len a n)
-
-  blocks-place : (a n : ℕ) → Each (FromPriority a) (blocks a n)
-  blocks-place a zero = tt
-  blocks-place a (suc n) =
-      each-append (FromPriority a) (block a) _
-      (each-map (λ s. s.kind ≡ StageKind.Start → s.priority ≡ a) (FromPriority a) (λ s h k. omega (arith, h k)) _ (block-place a))
-      (each-map (FromPriority (a + 1)) (FromPriority a) (λ s h k. omega (arith, h k)) _ (blocks-place (a + 1) n))
-
-  blocks-sorted : (a n : ℕ) → IsSorted (blocks a n)
-  blocks-sorted a zero = tt
-  blocks-sorted a (suc n) =
-      sorted-append (block a) (blocks (a + 1) n) (block-sorted a) (blocks-sorted (a + 1) n)
-      (each-map (λ s. s.kind ≡ StageKind.Start → s.priority ≡ a) (λ s. Each (NotAfter s) (blocks (a + 1) n))
-      (λ s h. each-map (FromPriority (a + 1)) (NotAfter s) (λ t k x y. inl (omega (arith, h x, k y))) (blocks (a + 1) n) (blocks-place (a + 1) n))
-      _ (block-place a))
-
-quiet_stops : (plan : Plan) → Each StartsNothing (wind_down StageKind.Stop plan)
-quiet_stops plan = each-map (IsWave StageKind.Stop) StartsNothing (λ s e k. let wrong : StageKind.Stop ≡ StageKind.Start = sym e ∙ k in cc) _ (wind_down-kind StageKind.Stop plan)
-
-abbrev frozen_then_up : Plan → List Stage
-frozen_then_up plan = array_stage StageKind.Prepare ∷ array_stage StageKind.FinalSync ∷ array_stage StageKind.Split ∷ start_up plan
-
 -- the stages of a start-up operation
-pub stages_sorted : (plan : Plan) (o : Op) (forced : Bool) → is_start_up o ≡ true → IsSorted (stages plan o forced)
-stages_sorted plan o forced up = go o forced up
-  where
-    quiet : (kind : StageKind) (ys : List Stage) → (kind ≡ StageKind.Start → ⊥) → IsSorted ys → IsSorted (array_stage kind ∷ ys)
-    quiet kind ys ne s = (all_after (array_stage kind) ne ys, s)
-
-    up_sorted : IsSorted (start_up plan)
-    up_sorted = blocks-sorted plan 1 5
-
-    recovers : IsSorted (recovery plan)
-    recovers =
-        quiet StageKind.Sync (wind_down StageKind.Stop plan ++ frozen_then_up plan) (λ e. cc)
-        (sorted-quiet (wind_down StageKind.Stop plan) (frozen_then_up plan) (quiet_stops plan)
-        (quiet StageKind.Prepare (array_stage StageKind.FinalSync ∷ array_stage StageKind.Split ∷ start_up plan) (λ e. cc) (quiet StageKind.FinalSync (array_stage StageKind.Split ∷ start_up plan) (λ e. cc) (quiet StageKind.Split (start_up plan) (λ e. cc) up_sorted))))
-
-    go : (o : Op) (forced : Bool) → is_start_up o ≡ true → IsSorted (stages plan o forced)
-    go Op.Testing forced e = quiet StageKind.Sync (array_stage StageKind.TestStart ∷ start_up plan) (λ e. cc) (quiet StageKind.TestStart (start_up plan) (λ e. cc) up_sorted)
-    go Op.Migrate forced e = recovers
-    go Op.Failover false e = recovers
-    go Op.Failover true e = quiet StageKind.Split (start_up plan) (λ e. cc) up_sorted
-    go Op.Cleanup forced e = absurd cc
-    go Op.Reprotect forced e = absurd cc
-
--- By numbers
-
-sorted_numbers : (n : ℕ) (ss : List Stage) → IsSorted ss → (i j : ℕ) → n ≤ i → i < j → NotAfter (stage_from n ss i) (stage_from n ss j)
-sorted_numbers n [] h i j above below = λ k l. absurd (let wrong : StageKind.Prompt ≡ StageKind.Start = k in cc)
-sorted_numbers n (s ∷ ss) h i j above below = go (cases_eq i n) (λ le. sorted_numbers (n + 1) ss h.1 i j le below)
-  where
-    at_j : stage_from n (s ∷ ss) j ≡ stage_from (n + 1) ss j
-    at_j = rw (ne_eqb j n (λ same. omega arith)) refl
-
-    go : (i ≡ n) ⊎ (i ≡ n → ⊥) → (n + 1 ≤ i → NotAfter (stage_from (n + 1) ss i) (stage_from (n + 1) ss j)) → NotAfter (stage_from n (s ∷ ss) i) (stage_from n (s ∷ ss) j)
-    go (inl e) later = rw (eq-eqb i n e, ne_eqb j n (λ same. omega arith)) (stage_from-each (NotAfter s) (n + 1) ss j (λ k l. let wrong : StageKind.Prompt ≡ StageKind.Start = l in absurd cc) h.0)
-    go (inr ne) later = rw (ne_eqb i n ne, ne_eqb j n (λ same. omega arith)) (later (omega arith))
+pub wave_numbers : (plan : Plan) (o : Op) (forced : Bool) → is_start_up o ≡ true → (i j : ℕ) → 1 ≤ i → i < j → NotAfter (stage_from 1 (stages plan o forced) i) (stage_from 1 (stages plan o forced) j)
+wave_numbers plan o forced up =
+    sorted_numbers NotAfter (λ s k l. let wrong : StageKind.Prompt ≡ StageKind.Start = l in cc) 1 (stages plan o forced)
+    (stages_sorted NotAfter (λ s t h k l. absurd (h k)) (λ s t lt k l. inl lt) plan (λ p. waves_from-sorted plan.machines p 0 (above (map (λ m. m.depth) plan.machines))) o forced up)
 
 -- where a stage has P, it has a number
 pub number_with : (P : Stage → Type 0) (n : ℕ) (ss : List Stage) → Some_of P ss → (i : ℕ) × (n ≤ i) × P (stage_from n ss i)
@@ -199,12 +101,7 @@ start_up-starts plan x h =
     (wave_of-it x _ (wave-has plan.machines x h.listed)))))))
 
 pub stages-starts : (plan : Plan) (x : PlanMachine) (o : Op) (forced : Bool) → is_start_up o ≡ true → IsMachineOf plan x → Some_of (StartsIt x) (stages plan o forced)
-stages-starts plan x Op.Testing forced up h = inr (inr (start_up-starts plan x h))
-stages-starts plan x Op.Migrate forced up h = inr (some_of-right (StartsIt x) (wind_down StageKind.Stop plan) _ (inr (inr (inr (start_up-starts plan x h)))))
-stages-starts plan x Op.Failover false up h = inr (some_of-right (StartsIt x) (wind_down StageKind.Stop plan) _ (inr (inr (inr (start_up-starts plan x h)))))
-stages-starts plan x Op.Failover true up h = inr (start_up-starts plan x h)
-stages-starts plan x Op.Cleanup forced up h = absurd cc
-stages-starts plan x Op.Reprotect forced up h = absurd cc
+stages-starts plan x o forced up h = some_of-stages (StartsIt x) plan o forced up (start_up-starts plan x h)
 
 pub earlier_number : (plan : Plan) (x : PlanMachine) (o : Op) (forced : Bool) → is_start_up o ≡ true → IsMachineOf plan x → (j : ℕ) → 1 ≤ j → (stage_from 1 (stages plan o forced) j).kind ≡ StageKind.Start → IsEarlier x (stage_from 1 (stages plan o forced) j) → (i : ℕ) × (1 ≤ i) × (i < j) × StartsIt x (stage_from 1 (stages plan o forced) i)
 earlier_number plan x o forced up h j at_least kind earlier =
@@ -226,4 +123,4 @@ earlier_number plan x o forced up h j at_least kind earlier =
       where
         apart : (i ≡ j) ⊎ (i ≡ j → ⊥) → i < j
         apart (inl e) = absurd (not_same i s e)
-        apart (inr ne) = absurd (no_less i s earlier (sorted_numbers 1 (stages plan o forced) (stages_sorted plan o forced up) j i at_least (omega arith) kind s.0))
+        apart (inr ne) = absurd (no_less i s earlier (wave_numbers plan o forced up j i at_least (omega arith) kind s.0))

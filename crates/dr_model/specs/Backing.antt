@@ -89,9 +89,13 @@ BacksStart setting runs world row =
 
 -- Machines that start --------------------------------------------------------------------------------------------------
 
+-- a machine that a plan names: one of its own, or one that such a one depends on
+abbrev pub Names : Plan → ℕ → Type 0
+Names plan machine = (m : PlanMachine) × Contains plan.machines m × ((machine ≡ m.machine) ⊎ Contains m.after machine)
+
 -- what may change for a run that starts machines: nothing that they rest on is lost, and each that was started anew may be so
 pub record KeepsOrder (old new_world : World) (runs : List Run) (run : Run) : Type 0 where
-  pub ready : (m : ℕ) → is_ready_at_new old run m ≡ true → is_ready_at_new new_world run m ≡ true
+  pub ready : (m : ℕ) → Names run.plan m → is_ready_at_new old run m ≡ true → is_ready_at_new new_world run m ≡ true
   pub kept : (m t : ℕ) → keeps (old.kept m) t ≡ true → keeps (new_world.kept m) t ≡ true
   pub runner : (t : ℕ) → keeps old.runner t ≡ true → keeps new_world.runner t ≡ true
   pub serving : (m : PlanMachine) (k : ℕ) → Contains run.plan.machines m → IsPairOfMachine run.estate m.machine k → IsServing (op run) (number run) (old.pair k) → IsServing (op run) (number run) (new_world.pair k)

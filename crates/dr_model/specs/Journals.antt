@@ -1,16 +1,13 @@
 -- What a journal's file tells: records, the setting that the first of them declares, and runs.
-use Rattle.std.specs.Prelude.{◌≡◌, ℕ, ◌+◌, ◌⊎◌, true, false, List, [], ◌∷◌, ◌++◌, length, Result, Ok, Some, slice_get}
-use Rattle.dr_base.specs.Sides.{other}
-use Rattle.dr_base.specs.declared.side.Side.{Side}
-use Rattle.dr_inventory.specs.declared.estate.Estate.{Estate}
+use Rattle.std.specs.Prelude.{◌≡◌, ℕ, ◌+◌, ◌⊎◌, List, [], ◌∷◌, ◌++◌, length}
 use Rattle.dr_inventory.specs.Estates.{IsEstateText}
 use Rattle.dr_groups.specs.declared.lists.Members.{Members}
 use Rattle.dr_setting.specs.Settings.{IsSetting}
 use Rattle.dr_records.specs.Spelling.{IsRecord, spelling}
 use Rattle.dr_journal.specs.Reading.{all_record_bytes, journal_of}
 use Rattle.dr_journal.specs.Reading.Reading.{Whole, DamagedAt}
-use Rattle.dr_model.specs.Types.{Plan, Placement, Unmapped, Record}
-use Rattle.dr_model.specs.Runs.{Setting, Run, named_side, runs_of}
+use Rattle.dr_model.specs.Types.{Record}
+use Rattle.dr_model.specs.Runs.{Setting, Run, runs_of}
 use Rattle.dr_model.specs.Lawful.{LawfulAfter}
 
 -- The setting of an estate's text ------------------------------------------------------------------------

@@ -1,25 +1,27 @@
 //! Laws of the definitions. Each stands as the contract of a function that does nothing. A list of
 //! records that is lawful is that of a journal behind its Estate.
 
-ghost use Rattle.std.specs.Prelude.{◌≡◌, ◌≢◌, ◌↔◌, ◌<◌, ◌⊎◌, ℕ, Bool, true, false, List, [], ◌∷◌, Some, Contains, filter, map, slice_get};
+ghost use Rattle.std.specs.Prelude.{◌≡◌, ◌≢◌, ◌↔◌, ◌<◌, ◌⊎◌, ℕ, Bool, true, false, List, [], ◌∷◌, Some, None, IsSomeAnd, Contains, filter, map, slice_get, take};
 ghost use Rattle.std.specs.List.{list_any, AllByRecursion};
 ghost use Rattle.dr_base.specs.Sides.{same_side};
+ghost use Rattle.dr_groups.specs.Groups.{IsPairOf};
 ghost use Rattle.dr_outside.specs.BySide.{at};
 ghost use Rattle.dr_outside.specs.Pairs.{Drift, Made, Frame, frame_of};
 ghost use Rattle.dr_model.specs.Types.{Side as SideValue, Op as OpValue, Pair, Post as PostValue, Placed as PlacedValue, Estate as EstateValue, Plan as PlanValue, PlanMachine as MachineValue, ArrayCall, StageKind as KindValue, Record as RecordValue, StartRow};
 ghost use Rattle.dr_model.specs.Testing.{IsTestedPair, with_snapshot};
 ghost use Rattle.dr_model.specs.Worlds.{World};
 ghost use Rattle.dr_model.specs.Stages.{has, stage_at};
-ghost use Rattle.dr_model.specs.Visits.{Visit, visits, begun};
-ghost use Rattle.dr_model.specs.Runs.{Setting, Run, number, op, new, holds, stages_of, is_finished, is_open, run_at, last_of_group, take_in, add_record, runs_of, group_state};
+ghost use Rattle.dr_model.specs.Visits.{Visit, visits, begun, all};
+ghost use Rattle.dr_model.specs.Runs.{Setting, Run, number, op, new, holds, stages_of, is_finished, is_open, run_at, last_of_group, take_in, add_record, runs_of, group_state, root, as_taken};
 ghost use Rattle.dr_model.specs.Outcomes.{IsAsWanted};
 ghost use Rattle.dr_model.specs.Reach.{ReachFrame, ReachPost};
 ghost use Rattle.dr_model.specs.Meaning.{is_left, MeansFrame, MeansPost};
-ghost use Rattle.dr_model.specs.Lawful.{MayFinish, MayCome, LawfulAfter};
+ghost use Rattle.dr_model.specs.Lawful.{tokens_from, MayFinish, MayCome, LawfulAfter};
 ghost use Rattle.dr_model.specs.Expected.{wanted, ExpectedFrame, ExpectedPost};
 ghost use Rattle.dr_model.specs.Fits.{FitsPair};
-ghost use Rattle.dr_model.specs.InOrder.{is_ready, is_aside, is_start_up, InOrder};
-ghost use Rattle.dr_model.specs.Calls.{call_of, Called, CallsPairs};
+ghost use Rattle.dr_model.specs.InOrder.{is_ready, is_aside, is_start_up, InOrder, keeps, is_ready_at_new, IsPairOfMachine, MayRun};
+ghost use Rattle.dr_model.specs.Journals.{Declares};
+ghost use Rattle.dr_model.specs.Calls.{call_of, Called, CallsPairs, IsLeftOut, IsWorked, CallsMachines, OnlyKeepsCodes};
 ghost use Rattle.dr_model.specs.Sound.{IsKept, IsSoundBy, IsSound};
 ghost use Rattle.dr_model.specs.Phases.{IsAtRest, AtRest, PostAtRest};
 ghost use Rattle.dr_model.specs.Backing.{HasRegularPlans, BacksPair, BacksDone, BacksStart, KeepsOrder, IsEntry, IsEarlier, IsPlain};
@@ -45,10 +47,25 @@ pub fn drift_keeps_sound()
         (file : List ℕ) → IsSound world file → IsSound (record world { pair = pairs }) file }
 {}
 
+/// The plans that a journal's Estate declares are regular.
+pub fn declared_plans_are_regular()
+    ensures { (bytes : List ℕ) (setting : Setting) → Declares bytes setting → HasRegularPlans setting }
+{}
+
 /// An open run is the last run of each of its groups.
 pub fn open_run_is_last()
     ensures { (setting : Setting) (records : List RecordValue) (n group : ℕ) (run : Run) → LawfulAfter setting [] records →
         run_at n (runs_of setting records) ≡ Some run → is_open run ≡ true → holds group run ≡ true → last_of_group group (runs_of setting records) ≡ Some run }
+{}
+
+/// A run whose Start names no run to take over holds none. Any other one holds of the run that its Start
+/// names what still stands in the journal, and that run names it as the one that took it over.
+pub fn taken_run_stays()
+    ensures none { (setting : Setting) (records : List RecordValue) (n : ℕ) (run : Run) → LawfulAfter setting [] records →
+        run_at n (runs_of setting records) ≡ Some run → run.start.over ≡ 0 → run.took ≡ None }
+    ensures stays { (setting : Setting) (records : List RecordValue) (n : ℕ) (run : Run) → LawfulAfter setting [] records →
+        run_at n (runs_of setting records) ≡ Some run → run.start.over ≢ 0 →
+        IsSomeAnd (run_at run.start.over (runs_of setting records)) (λ taken. (taken.by ≡ number run) × (run.took ≡ Some (as_taken taken))) }
 {}
 
 /// A group whose runs are all finished has the frames of its state: in phase ready exactly the
@@ -150,12 +167,46 @@ pub fn calls_keep_sound()
         IsSoundBy setting (runs_of setting records) old → IsSoundBy setting (runs_of setting records) now }
 {}
 
+/// The work of an open run's begun stage on machines keeps the outside sound, whichever calls it made
+/// and whatever each answered, if each machine that it started may run.
+pub fn machines_keep_sound()
+    ensures { (setting : Setting) (records : List RecordValue) (run : Run) (stage : ℕ) (old now : World) → LawfulAfter setting [] records → HasRegularPlans setting →
+        run_at (number run) (runs_of setting records) ≡ Some run → is_open run ≡ true → begun run.log ≡ Some stage →
+        CallsMachines setting.estate run (stage_at (stages_of run) stage) old now →
+        IsSoundBy setting (runs_of setting records) old → IsSoundBy setting (runs_of setting records) now }
+{}
+
+/// Where machines or the runner keep more codes, the outside stays sound by the same runs, and so
+/// does a file with it.
+pub fn kept_codes_keep_sound()
+    ensures by_runs { (setting : Setting) (runs : List Run) (old now : World) → OnlyKeepsCodes old now → IsSoundBy setting runs old → IsSoundBy setting runs now }
+    ensures by_file { (old now : World) (file : List ℕ) → OnlyKeepsCodes old now → IsSound old file → IsSound now file }
+{}
+
 /// A pair that the begun stage's call made shows what the stage's Done says.
 pub fn made_pair_backs_done()
     ensures { (setting : Setting) (records : List RecordValue) (group : ℕ) (run : Run) (visit : Visit) (earlier : List Visit) (world : World) (k : ℕ) (call : ArrayCall) (p : Pair) →
         LawfulAfter setting [] records → last_of_group group (runs_of setting records) ≡ Some run → is_finished run ≡ false →
         visits run.log ≡ visit ∷ earlier → visit.done ≡ false → FitsPair setting.estate (runs_of setting records) group k p →
         call_of run (stage_at (stages_of run) visit.stage).kind ≡ Some call → Made call p (world.pair k) → BacksPair world run visit k }
+{}
+
+/// A pair that the begun stage's call left out, since what the stage makes is made already, shows what
+/// the stage's Done says.
+pub fn left_out_pair_backs_done()
+    ensures { (setting : Setting) (records : List RecordValue) (group : ℕ) (run : Run) (visit : Visit) (earlier : List Visit) (world : World) (k : ℕ) (p : Pair) →
+        LawfulAfter setting [] records → last_of_group group (runs_of setting records) ≡ Some run → is_finished run ≡ false →
+        visits run.log ≡ visit ∷ earlier → FitsPair setting.estate (runs_of setting records) group k p →
+        IsLeftOut run (stage_at (stages_of run) visit.stage).kind p → Drift p (world.pair k) → BacksPair world run visit k }
+{}
+
+/// Where the begun stage's calls left out or made each pair of the run's groups, or all pairs were
+/// skipped, the pairs show what the stage's Done says.
+pub fn worked_pairs_back_done()
+    ensures { (setting : Setting) (records : List RecordValue) (run : Run) (visit : Visit) (earlier : List Visit) (old now : World) → LawfulAfter setting [] records →
+        is_finished run ≡ false → visits run.log ≡ visit ∷ earlier → visit.done ≡ false → IsSoundBy setting (runs_of setting records) old → now.pair_count ≡ old.pair_count →
+        (has visit.excused all ≡ false → (group p : ℕ) → IsPairOf setting.estate group p → p < now.pair_count → last_of_group group (runs_of setting records) ≡ Some run → IsWorked run (stage_at (stages_of run) visit.stage).kind (old.pair p) (now.pair p)) →
+        (group p : ℕ) → IsPairOf setting.estate group p → p < now.pair_count → last_of_group group (runs_of setting records) ≡ Some run → BacksPair now run visit p }
 {}
 
 /// When a Start wave is begun, each machine of an earlier priority or depth is ready at the new side,
@@ -166,6 +217,24 @@ pub fn waves_start_in_order()
         visits run.log ≡ visit ∷ earlier → (stage_at (stages_of run) visit.stage).kind ≡ KindValue.Start → IsEntry run.plan m →
         IsEarlier m (stage_at (stages_of run) visit.stage) → ExpectedPost setting.estate group m.machine (new run) (runs_of setting records) y →
         (is_ready y ≡ true) ⊎ (list_any (is_aside m.machine) run.log ≡ true) }
+{}
+
+/// While a Start wave is begun, a machine of it may be started, where its commands before power-on are
+/// kept and a failover has left none of those that it depends on. It is enough that the outside was
+/// sound, and that since then machines of other waves stayed ready, the runner kept its codes, and the
+/// machine's pairs kept their frames.
+pub fn wave_machines_may_run()
+    ensures { (setting : Setting) (records : List RecordValue) (run : Run) (visit : Visit) (earlier : List Visit) (m : MachineValue) (old now : World) →
+        LawfulAfter setting [] records → HasRegularPlans setting → run_at (number run) (runs_of setting records) ≡ Some run → is_open run ≡ true →
+        visits run.log ≡ visit ∷ earlier → (stage_at (stages_of run) visit.stage).kind ≡ KindValue.Start →
+        Contains run.plan.machines m → has (stage_at (stages_of run) visit.stage).machines m.machine ≡ true →
+        (op run ≡ OpValue.Failover → AllByRecursion (λ d. is_left run d ≡ false) m.after) →
+        ((x : MachineValue) → Contains run.plan.machines x → x.machine < old.machine_count) →
+        ((p : ℕ) → IsPairOfMachine run.estate m.machine p → p < old.pair_count) → IsSoundBy setting (runs_of setting records) old →
+        ((d : ℕ) → has (stage_at (stages_of run) visit.stage).machines d ≡ false → is_ready_at_new old run d ≡ true → is_ready_at_new now run d ≡ true) →
+        ((t : ℕ) → keeps old.runner t ≡ true → keeps now.runner t ≡ true) →
+        ((p : ℕ) → IsPairOfMachine run.estate m.machine p → frame_of (now.pair p) ≡ frame_of (old.pair p)) →
+        AllByRecursion (λ t. keeps (now.kept m.machine) t ≡ true) (tokens_from (root run) 0 (take 2 m.commands)) → MayRun now run m }
 {}
 
 /// Machines stay in order in each change in which nothing that they rest on is lost, and each that
