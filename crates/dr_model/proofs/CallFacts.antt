@@ -121,7 +121,7 @@ split_before estate g r (q ∷ rest) e chain = go chain.2
 -- Which operation has a stage of this kind
 
 abbrev pub Within : Op → StageKind → Type 0
-Within o StageKind.TestStart = is_start_up o ≡ true
+Within o StageKind.TestStart = o ≡ Op.Testing
 Within o StageKind.Split = is_recovery o ≡ true
 Within o StageKind.Reverse = o ≡ Op.Reprotect
 Within o StageKind.Prepare = o ≢ Op.Cleanup
@@ -256,7 +256,7 @@ module _ (setting : Setting) (runs : List Run) (well : IsWellKept setting runs) 
   fitting : (kind : StageKind) → (stage_of r v).kind ≡ kind → Within (op r) kind → MayWork kind call.before → Fitting kind r runs g k call.before
   fitting StageKind.Sync at_kind within may = tt
   fitting StageKind.FinalSync at_kind within may = tt
-  fitting StageKind.TestStart at_kind within may = start_up_source within
+  fitting StageKind.TestStart at_kind within may = start_up_source (rw within refl)
   fitting StageKind.TestStop at_kind within may = tt
   fitting StageKind.Prepare at_kind within may = tt
   fitting StageKind.Split at_kind within may = (start_up_source (starts_up (op r) within), within, splits_last g runs r last within)

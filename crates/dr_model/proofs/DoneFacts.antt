@@ -13,12 +13,10 @@ use Rattle.dr_model.specs.Reach.{Through, FrameStep, ReachFrame}
 use Rattle.dr_model.specs.Meaning.{same_kind, is_of_kind}
 use Rattle.dr_model.specs.Expected.{After, LeavesFrame}
 use Rattle.dr_model.specs.Lawful.{IsPairRow, SeenFor, StartsFrom, takes_over}
-use Rattle.dr_model.specs.InOrder.{is_start_up}
 use Rattle.dr_model.proofs.CallSteps.{worked}
-use Rattle.dr_model.specs.Fits.{row_of, is_recovery, is_visit_whole, is_done_whole, FitsWrites, FitsPair}
+use Rattle.dr_model.specs.Fits.{row_of, is_visit_whole, is_done_whole, FitsWrites, FitsPair}
 use Rattle.dr_model.specs.Phases.{IsRecovered}
 use Rattle.dr_model.proofs.Lists.{Each, all_each, each-find, find-passes}
-use Rattle.dr_model.proofs.StageLaws.{each-start_up_op}
 use Rattle.dr_model.proofs.ThroughLaws.{Makes, through_from, some_of-find}
 use Rattle.dr_model.proofs.WalkedLaws.{stage_of}
 use Rattle.dr_model.proofs.WholeMigrate.{at-put, at-put_other}
@@ -34,7 +32,7 @@ use Rattle.dr_model.proofs.CallFacts.{through_frame, takes_no_reprotect, row_has
 
 -- A done Prepare has frozen the old side
 
-module _ (run : Run) (up : is_start_up (op run) ≡ true) where
+module _ (run : Run) where
   abbrev FreezesOrKeeps : Stage → Type 0
   FreezesOrKeeps s = (x : Frame) → (at run.old (made_frame run s.kind x).writable ≡ at run.old x.writable) ⊎ (at run.old (made_frame run s.kind x).writable ≡ false)
 
@@ -54,7 +52,7 @@ module _ (run : Run) (up : is_start_up (op run) ≡ true) where
           (some_of-find (Makes (FrameStep run) (λ z. at run.old z.writable ≡ false)) (λ v. is_of_kind StageKind.Prepare (stage_at (stages_of run) v.stage)) (visits run.log) v found
           (complete_makes run (λ z. at run.old z.writable) false v whole (rw kind (λ x. at-put run.old false x.writable))))
           (frame_holds run (λ z. at run.old z.writable) false
-          (each-start_up_op FreezesOrKeeps run.plan (op run) run.start.forced up (λ s c x. by_kind s.kind x) (λ s k x. by_kind s.kind x) (λ s k x. by_kind s.kind x) (λ kind x. by_kind kind x))) x y reach
+          (all_each FreezesOrKeeps (λ s x. by_kind s.kind x) (stages_of run))) x y reach
 
 -- In a reprotect a Live pair has the new side as its source
 
@@ -69,7 +67,7 @@ live_kept r StageKind.TestStop x h e = h e
 live_kept r StageKind.Prepare x h e = h e
 live_kept r _ x h e = h e
 
-live_at_new : (estate : Estate) (g : ℕ) (r : Run) (earlier : List Run) → op r ≡ Op.Reprotect → IsChain estate g (r ∷ earlier) → is_finished r ≡ false → (y : Frame) → After (Opens estate g) LeavesFrame (r ∷ earlier) y → LiveAtNew r y
+pub live_at_new : (estate : Estate) (g : ℕ) (r : Run) (earlier : List Run) → op r ≡ Op.Reprotect → IsChain estate g (r ∷ earlier) → is_finished r ≡ false → (y : Frame) → After (Opens estate g) LeavesFrame (r ∷ earlier) y → LiveAtNew r y
 live_at_new estate g r earlier e chain going y (x, before, leaves) =
     through_frame r (LiveAtNew r) (all_each (λ s. (x : Frame) → LiveAtNew r x → LiveAtNew r (made_frame r s.kind x)) (λ s x h. live_kept r s.kind x h) (stages_of r)) (visits r.log) x y (rw going at leaves) (start earlier chain before)
   where
@@ -150,15 +148,8 @@ module _ (setting : Setting) (runs : List Run) (well : IsWellKept setting runs) 
         back = λ o. live_at_new setting.estate g r rest o chain going (frame_of m) expected live;
         read = λ o. rows Op.Testing o;
         early = λ o. snapshot_none (number r) m (no_snapshot setting.estate g r rest o chain going (no_visit r v earlier shape (each-find IsInSequence (holds g) runs r ordered last) StageKind.TestStart (below_test_start _ is) (λ f. cc)) (frame_of m) expected);
-        frozen = λ o done. prepared_frozen r (starts_up (op r) o) done expected.0 (frame_of m) (let leaves = expected.2 in rw going at leaves);
+        frozen = λ o done. prepared_frozen r done expected.0 (frame_of m) (let leaves = expected.2 in rw going at leaves);
       }
-    where
-      starts_up : (o : Op) → is_recovery o ≡ true → is_start_up o ≡ true
-      starts_up Op.Migrate e = refl
-      starts_up Op.Failover e = refl
-      starts_up Op.Testing e = absurd cc
-      starts_up Op.Cleanup e = absurd cc
-      starts_up Op.Reprotect e = absurd cc
 
   -- So where the call is Ok, the pair shows what the Done asks, and goes on to show it while it drifts.
   pub shown_after : (q : Pair) → Drift (worked r (stage_of r v).kind m) q → Shows k q r (stage_of r v).kind

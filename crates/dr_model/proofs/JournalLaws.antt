@@ -28,7 +28,7 @@ use Rattle.dr_model.proofs.ChainLaws.{IsWellKept, open_run}
 abbrev pub GoesOn : Record → Type 0
 GoesOn item = is_finish item ≡ false
 
-still_going : (r : Run) (item : Record) → GoesOn item → is_finished r ≡ false → is_finished (with_record r item) ≡ false
+pub still_going : (r : Run) (item : Record) → GoesOn item → is_finished r ≡ false → is_finished (with_record r item) ≡ false
 still_going r item goes going = rw goes going
 
 module _ (setting : Setting) (runs : List Run) (well : IsWellKept setting runs) (item : Record) (goes : GoesOn item) (r : Run) (at_n : run_at (run_named item) runs ≡ Some r) (going : is_open r ≡ true) (g : ℕ) where

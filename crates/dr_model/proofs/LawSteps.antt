@@ -1,15 +1,15 @@
 -- The laws of runs as contracts name them: of a lawful list of records behind the Estate.
-use Rattle.std.specs.Prelude.{◌≡◌, ℕ, ◌<◌, ◌==◌, ◌⊎◌, Bool, true, false, List, [], ◌∷◌, Option, Some, None, IsSomeAnd, map, slice_get, Contains, if◌then◌else◌}
+use Rattle.std.specs.Prelude.{◌≡◌, ℕ, ◌<◌, ◌==◌, ◌⊎◌, Bool, true, false, List, [], ◌∷◌, Option, Some, None, IsSomeAnd, IfSome, map, slice_get, Contains, if◌then◌else◌}
 use Rattle.std.proofs.Common.{refl, sym, ap, ◌∙◌, inl, inr, subst}
 use Rattle.dr_groups.specs.Groups.{IsPairOf}
 use Rattle.dr_outside.specs.BySide.{at}
-use Rattle.dr_outside.specs.Pairs.{frame_of, Drift, Made}
-use Rattle.dr_model.specs.Types.{Side, Link, ArrayCall, Pair, Placed, Post, Plan, PlanMachine, StageKind, StartRow, Record}
+use Rattle.dr_outside.specs.Pairs.{frame_of, is_fit, Drift, Made}
+use Rattle.dr_model.specs.Types.{Side, Op, Link, ArrayCall, Pair, Placed, Post, Plan, PlanMachine, StageKind, StartRow, Record}
 use Rattle.dr_model.specs.StartUp.{is_started}
 use Rattle.dr_model.specs.Worlds.{World}
 use Rattle.dr_model.specs.Stages.{has, stage_at}
 use Rattle.dr_model.specs.Visits.{Visit, visits, open_stage, begun, all}
-use Rattle.dr_model.specs.Runs.{Setting, Run, number, new, stages_of, holds, is_finished, is_open, run_at, last_of_group, take_in, take_over, begin_run, add_record, runs_of}
+use Rattle.dr_model.specs.Runs.{Setting, Run, number, op, new, stages_of, holds, is_finished, is_open, run_at, last_of_group, take_in, take_over, begin_run, add_record, runs_of}
 use Rattle.dr_model.specs.Outcomes.{made_frame}
 use Rattle.dr_model.specs.Lawful.{MayStart, MayFinish, MayCome, LawfulAfter}
 use Rattle.dr_model.specs.Fits.{FitsPair}
@@ -29,6 +29,7 @@ use Rattle.dr_model.proofs.FitsCall.{fits_at_call, made_at_call}
 use Rattle.dr_model.proofs.DoneFacts.{shown_after}
 use Rattle.dr_model.proofs.HeldLaws.{other_shows}
 use Rattle.dr_model.proofs.TookLaws.{TookFor, took-lawful}
+use Rattle.dr_model.proofs.FitCalls.{snapshot_own, fit_unless_left_out}
 use Rattle.dr_model.proofs.LeftOut.{left_out_drifts, left_out_made, left_out_shows}
 use Rattle.dr_model.proofs.OrderStart.{asides-lawful, in_order-start, none_there}
 use Rattle.dr_model.proofs.SoundAppend.{plain_adds, sound-plain, sound-done, sound-finish}
@@ -80,6 +81,18 @@ module _ (setting : Setting) (records : List Record) (lawful : LawfulAfter setti
         go : (way : IsUnderWay r.log stage) → AtCall r (stage_of r way.visit).kind p q ⊎ Drift p q → FitsPair setting.estate runs g k q
         go way (inl call) = fits_at_call setting runs well ordered g r last going way.visit way.earlier way.shape way.undone k p q fits call
         go way (inr drift) = drift_fits p q drift setting.estate runs g k fits
+
+    -- a pair that a call of the begun stage doesn't leave out is as the call needs it
+    pub called_fit : (stage : ℕ) → begun r.log ≡ Some stage → (k : ℕ) (p : Pair) (call : ArrayCall) → FitsPair setting.estate runs g k p → call_of r (stage_at (stages_of r) stage).kind ≡ Some call → (IsLeftOut r (stage_at (stages_of r) stage).kind p → ⊥) → is_fit call p ≡ true
+    called_fit stage its k p call fits of_stage out =
+        let way = under_way r.log stage its in
+        fit_unless_left_out setting runs well g r last going k p fits ordered way.visit way.earlier way.shape call
+        (subst (λ n. call_of r (stage_at (stages_of r) n).kind ≡ Some call) (sym way.of_stage) of_stage)
+        (subst (λ n. IsLeftOut r (stage_at (stages_of r) n).kind p → ⊥) (sym way.of_stage) out)
+
+    -- a pair that has a snapshot under a test has the test's
+    pub own_snapshot : op r ≡ Op.Testing → (k : ℕ) (p : Pair) → FitsPair setting.estate runs g k p → IfSome p.snapshot (λ s. s.run ≡ number r)
+    own_snapshot test k p fits = snapshot_own setting runs well g r last going k p fits test
 
     -- a pair that the call of the last visit's stage left out backs its Done
     pub left_out_backs : (v : Visit) (earlier : List Visit) → visits r.log ≡ v ∷ earlier → (w : World) (k : ℕ) (p : Pair) → FitsPair setting.estate runs g k p → IsLeftOut r (stage_at (stages_of r) v.stage).kind p → Drift p (w.pair k) → BacksPair w r v k

@@ -164,7 +164,7 @@ module _ (r : Run) (sequence : IsInSequence r) (ne : op r ≢ Op.Failover) (v : 
       go false e = e
       go true e = absurd (omega (arith, lower, ap rank (kind-same _ kind e)))
 
-  done_below : is_done_whole r kind ≡ true
+  pub done_below : is_done_whole r kind ≡ true
   done_below =
       let (u, found) = find-some_of (λ u. is_of_kind kind (stage_at (stages_of r) u.stage)) earlier visited_before in
       let among : find (λ u. is_of_kind kind (stage_at (stages_of r) u.stage)) (v ∷ earlier) ≡ Some u = rw not_the_last found in

@@ -61,3 +61,6 @@ pub mod CalloutLaws
 pub mod MayRunLaws
 pub mod TakenLaws
 pub mod MachineSound
+pub mod FileLaws
+pub mod WalkEnds
+pub mod FitCalls

@@ -53,6 +53,10 @@ pub record Tells (setting : Setting) (runs : List Run) (file : List ℕ) : Type 
   pub lawful : LawfulAfter setting [] rest
   pub runs_are : runs ≡ runs_of setting rest
 
+-- each image of a disk tells these runs in this setting
+abbrev pub AllTell : Setting → List Run → (List ℕ → Type 0) → Type 0
+AllTell setting runs images = (file : List ℕ) → images file → Tells setting runs file
+
 -- Files that are no journal --------------------------------------------------------------------------------------
 
 -- a record may come behind these, in some setting

@@ -1,10 +1,10 @@
 -- The stage that a run works next.
-use Rattle.std.specs.Prelude.{ℕ, ◌+◌, ◌==◌, Bool, true, false, ◌&&◌, ◌||◌, not, List, [], ◌∷◌, Option, Some, None, if◌then◌else◌}
-use Rattle.std.specs.List.{list_any}
+use Rattle.std.specs.Prelude.{◌≡◌, ◌≢◌, ℕ, ◌+◌, ◌≤◌, ◌==◌, Bool, true, false, ◌&&◌, ◌||◌, not, List, [], ◌∷◌, Option, Some, None, length, if◌then◌else◌}
+use Rattle.std.specs.List.{list_any, AllByRecursion}
 use Rattle.std.specs.Option.{option_or}
-use Rattle.dr_model.specs.Types.{StageKind, Stage, Record}
-use Rattle.dr_model.specs.Visits.{begun, is_done}
-use Rattle.dr_model.specs.Runs.{Run, stages_of}
+use Rattle.dr_model.specs.Types.{Op, StageKind, Stage, Record}
+use Rattle.dr_model.specs.Visits.{visits, begun, is_done}
+use Rattle.dr_model.specs.Runs.{Run, op, stages_of}
 use Rattle.dr_model.specs.Meaning.{same_kind, is_left}
 
 -- whether a record is an Attempt
@@ -37,3 +37,10 @@ least_undone run = least_stage (λ n stage. not (is_done run.log n)) 1 (stages_o
 abbrev pub next_stage : Run → Option ℕ
 next_stage run =
     option_or (begun run.log) (option_or (least_stage (is_worked_again run) 1 (stages_of run)) (least_undone run))
+
+-- a run has gone through its stages: each was visited and is done since its last Begin, none is begun without being done, and outside a failover nothing was skipped or set aside
+pub record HasWalked (run : Run) : Type 0 where
+  pub each : (stage : ℕ) → 1 ≤ stage → stage ≤ length (stages_of run) → is_done run.log stage ≡ true
+  pub all_done : AllByRecursion (λ visit. visit.done ≡ true) (visits run.log)
+  pub none_begun : begun run.log ≡ None
+  pub none_excused : op run ≢ Op.Failover → AllByRecursion (λ visit. visit.excused ≡ []) (visits run.log)

@@ -1,12 +1,14 @@
 //! Laws of the definitions. Each stands as the contract of a function that does nothing. A list of
 //! records that is lawful is that of a journal behind its Estate.
 
-ghost use Rattle.std.specs.Prelude.{◌≡◌, ◌≢◌, ◌↔◌, ◌<◌, ◌⊎◌, ℕ, Bool, true, false, List, [], ◌∷◌, Some, None, IsSomeAnd, Contains, filter, map, slice_get, take};
+ghost use Rattle.std.specs.Prelude.{◌≡◌, ◌≢◌, ◌↔◌, ◌<◌, ◌⊎◌, ℕ, Bool, true, false, List, [], ◌∷◌, Some, None, IsSomeAnd, IfSome, Contains, filter, map, slice_get, take};
 ghost use Rattle.std.specs.List.{list_any, AllByRecursion};
 ghost use Rattle.dr_base.specs.Sides.{same_side};
+ghost use Rattle.dr_disk.specs.Disk.{Follows};
+ghost use Rattle.dr_journal.specs.Kept.{SameRecords, Appends, AppendsSome};
 ghost use Rattle.dr_groups.specs.Groups.{IsPairOf};
 ghost use Rattle.dr_outside.specs.BySide.{at};
-ghost use Rattle.dr_outside.specs.Pairs.{Drift, Made, Frame, frame_of};
+ghost use Rattle.dr_outside.specs.Pairs.{Drift, Made, Frame, frame_of, is_fit};
 ghost use Rattle.dr_model.specs.Types.{Side as SideValue, Op as OpValue, Pair, Post as PostValue, Placed as PlacedValue, Estate as EstateValue, Plan as PlanValue, PlanMachine as MachineValue, ArrayCall, StageKind as KindValue, Record as RecordValue, StartRow};
 ghost use Rattle.dr_model.specs.Testing.{IsTestedPair, with_snapshot};
 ghost use Rattle.dr_model.specs.Worlds.{World};
@@ -16,19 +18,83 @@ ghost use Rattle.dr_model.specs.Runs.{Setting, Run, number, op, new, holds, stag
 ghost use Rattle.dr_model.specs.Outcomes.{IsAsWanted};
 ghost use Rattle.dr_model.specs.Reach.{ReachFrame, ReachPost};
 ghost use Rattle.dr_model.specs.Meaning.{is_left, MeansFrame, MeansPost};
+ghost use Rattle.dr_model.specs.Next.{HasWalked};
 ghost use Rattle.dr_model.specs.Lawful.{tokens_from, MayFinish, MayCome, LawfulAfter};
 ghost use Rattle.dr_model.specs.Expected.{wanted, ExpectedFrame, ExpectedPost};
 ghost use Rattle.dr_model.specs.Fits.{FitsPair};
 ghost use Rattle.dr_model.specs.InOrder.{is_ready, is_aside, is_start_up, InOrder, keeps, is_ready_at_new, IsPairOfMachine, MayRun};
-ghost use Rattle.dr_model.specs.Journals.{Declares};
+ghost use Rattle.dr_model.specs.Journals.{Declares, IsSpelled, HasRecords, Tells, AllTell};
 ghost use Rattle.dr_model.specs.Calls.{call_of, Called, CallsPairs, IsLeftOut, IsWorked, CallsMachines, OnlyKeepsCodes};
-ghost use Rattle.dr_model.specs.Sound.{IsKept, IsSoundBy, IsSound};
+ghost use Rattle.dr_model.specs.Sound.{IsKept, IsSoundBy, IsSound, AreSound};
 ghost use Rattle.dr_model.specs.Phases.{IsAtRest, AtRest, PostAtRest};
 ghost use Rattle.dr_model.specs.Backing.{HasRegularPlans, BacksPair, BacksDone, BacksStart, KeepsOrder, IsEntry, IsEarlier, IsPlain};
+
+use dr_disk::Disk;
 
 /// Two drifts in a row are one, so what holds up to drift holds over any number of calls.
 pub fn drift_composes()
     ensures { (p q r : Pair) → Drift p q → Drift q r → Drift p r }
+{}
+
+/// A file tells one setting and its runs.
+pub fn told_is_one()
+    ensures { (s t : Setting) (a b : List Run) (file : List ℕ) → Tells s a file → Tells t b file → (s ≡ t) × (a ≡ b) }
+{}
+
+/// A file that tells runs is sound with the outside where the outside is sound by these runs, and only there.
+pub fn file_is_sound_by_its_runs()
+    ensures { (setting : Setting) (runs : List Run) (world : World) (file : List ℕ) → Tells setting runs file → IsSound world file ↔ IsSoundBy setting runs world }
+{}
+
+/// A file with the records of another tells what that tells, and is sound where that is.
+pub fn same_records_tell()
+    ensures tells { (setting : Setting) (runs : List Run) (old new : List ℕ) → SameRecords old new → Tells setting runs old → Tells setting runs new }
+    ensures sound { (world : World) (old new : List ℕ) → SameRecords old new → IsSound world old → IsSound world new }
+{}
+
+/// A file to which a record was appended that may come tells the runs with that record.
+pub fn appended_record_tells()
+    ensures { (setting : Setting) (runs : List Run) (item : RecordValue) (body old new : List ℕ) →
+        Tells setting runs old → MayCome setting runs item → IsSpelled body item → Appends (body ∷ []) old new → Tells setting (add_record setting runs item) new }
+{}
+
+/// A file of no record to which an Estate was appended tells what that declares, and no run.
+pub fn appended_estate_tells()
+    ensures { (setting : Setting) (bytes body old new : List ℕ) →
+        HasRecords [] old → Declares bytes setting → IsSpelled body (RecordValue.Estate bytes) → Appends (body ∷ []) old new → Tells setting [] new }
+{}
+
+/// An opening of the journal leaves all images of the disk sound, and they tell what they told.
+pub fn opening_keeps_sound<D: Disk>(before: &D, after: &D)
+    ensures tell { (setting : Setting) (runs : List Run) → Follows SameRecords (D.images before.now) (D.images after.now) →
+        AllTell setting runs (D.images before.now) → AllTell setting runs (D.images after.now) }
+    ensures sound { (world : World) → Follows SameRecords (D.images before.now) (D.images after.now) →
+        AreSound (D.images before.now) world → AreSound (D.images after.now) world }
+{}
+
+/// After a record was appended that may come, all images tell the runs with that record. At any exit
+/// of the append all images are sound, whichever of them have the record: it is enough that where
+/// there is an image, an outside that is sound by the runs is so by the runs with the record.
+pub fn appended_record_keeps_sound<D: Disk>(before: &D, after: &D)
+    ensures tell { (setting : Setting) (runs : List Run) (item : RecordValue) (body : List ℕ) →
+        AllTell setting runs (D.images before.now) → MayCome setting runs item → IsSpelled body item →
+        Follows (Appends (body ∷ [])) (D.images before.now) (D.images after.now) → AllTell setting (add_record setting runs item) (D.images after.now) }
+    ensures sound { (setting : Setting) (runs : List Run) (item : RecordValue) (body : List ℕ) (world : World) →
+        AllTell setting runs (D.images before.now) → MayCome setting runs item → IsSpelled body item →
+        Follows (AppendsSome (body ∷ [])) (D.images before.now) (D.images after.now) →
+        ((file : List ℕ) → D.images before.now file → IsSoundBy setting runs world → IsSoundBy setting (add_record setting runs item) world) →
+        AreSound (D.images before.now) world → AreSound (D.images after.now) world }
+{}
+
+/// The same of the first record, an Estate: at any exit of its append all images are sound, where the
+/// outside is sound by no run.
+pub fn appended_estate_keeps_sound<D: Disk>(before: &D, after: &D)
+    ensures tell { (setting : Setting) (bytes body : List ℕ) → ((file : List ℕ) → D.images before.now file → HasRecords [] file) →
+        Declares bytes setting → IsSpelled body (RecordValue.Estate bytes) →
+        Follows (Appends (body ∷ [])) (D.images before.now) (D.images after.now) → AllTell setting [] (D.images after.now) }
+    ensures sound { (setting : Setting) (bytes body : List ℕ) (world : World) → ((file : List ℕ) → D.images before.now file → HasRecords [] file) →
+        Declares bytes setting → IsSpelled body (RecordValue.Estate bytes) →
+        Follows (AppendsSome (body ∷ [])) (D.images before.now) (D.images after.now) → IsSoundBy setting [] world → AreSound (D.images after.now) world }
 {}
 
 /// A finished test leaves a pair's frame as it was, with a snapshot of its run.
@@ -90,6 +156,14 @@ pub fn posts_stand_as_wanted()
     ensures { (setting : Setting) (records : List RecordValue) (group machine : ℕ) (run : Run) (y : PostValue) → LawfulAfter setting [] records →
         last_of_group group (runs_of setting records) ≡ Some run → is_start_up (op run) ≡ true →
         ExpectedPost setting.estate group machine (new run) (runs_of setting records) y → IsAsWanted (wanted group run machine) y }
+{}
+
+/// A run that may be finished has gone through its stages, and so has each finished run.
+pub fn finished_run_has_walked()
+    ensures may_be { (setting : Setting) (records : List RecordValue) (n : ℕ) (run : Run) (machines : List ℕ) → LawfulAfter setting [] records →
+        run_at n (runs_of setting records) ≡ Some run → MayFinish run machines → HasWalked run }
+    ensures is { (setting : Setting) (records : List RecordValue) (n : ℕ) (run : Run) → LawfulAfter setting [] records →
+        run_at n (runs_of setting records) ≡ Some run → is_finished run ≡ true → HasWalked run }
 {}
 
 /// Where a run may be finished, what it may have made of a frame is what it means.
@@ -181,6 +255,21 @@ pub fn machines_keep_sound()
 pub fn kept_codes_keep_sound()
     ensures by_runs { (setting : Setting) (runs : List Run) (old now : World) → OnlyKeepsCodes old now → IsSoundBy setting runs old → IsSoundBy setting runs now }
     ensures by_file { (old now : World) (file : List ℕ) → OnlyKeepsCodes old now → IsSound old file → IsSound now file }
+{}
+
+/// A pair that fits, and that the begun stage's call doesn't leave out, is as the call needs it.
+pub fn called_pair_is_fit()
+    ensures { (setting : Setting) (records : List RecordValue) (group : ℕ) (run : Run) (stage k : ℕ) (call : ArrayCall) (p : Pair) → LawfulAfter setting [] records →
+        last_of_group group (runs_of setting records) ≡ Some run → is_finished run ≡ false → begun run.log ≡ Some stage →
+        FitsPair setting.estate (runs_of setting records) group k p → call_of run (stage_at (stages_of run) stage).kind ≡ Some call →
+        ¬ IsLeftOut run (stage_at (stages_of run) stage).kind p → is_fit call p ≡ true }
+{}
+
+/// Under an unfinished test a pair that fits and has a snapshot has that of the test.
+pub fn snapshot_is_of_its_test()
+    ensures { (setting : Setting) (records : List RecordValue) (group : ℕ) (run : Run) (k : ℕ) (p : Pair) → LawfulAfter setting [] records →
+        last_of_group group (runs_of setting records) ≡ Some run → is_finished run ≡ false → op run ≡ OpValue.Testing →
+        FitsPair setting.estate (runs_of setting records) group k p → IfSome p.snapshot (λ s. s.run ≡ number run) }
 {}
 
 /// A pair that the begun stage's call made shows what the stage's Done says.
