@@ -14,11 +14,13 @@ use Rattle.dr_outside.specs.declared.machine.PortFail.{PortFail}
 use Rattle.dr_outside.specs.declared.machine.PortFail.TheVariants as ports
 use Rattle.dr_outside.specs.declared.runner.RunnerFail.{RunnerFail}
 use Rattle.dr_outside.specs.declared.runner.RunnerFail.TheVariants as runners
+use Rattle.dr_outside.specs.declared.pair.Pair.{Pair}
 use Rattle.dr_outside.specs.declared.pair.Half.{Half}
 use Rattle.dr_outside.specs.Arrays.{is_listed}
 use Rattle.dr_outside.specs.BySide.{at, put}
 use Rattle.dr_outside.specs.Counts.{one_more_at}
 use Rattle.dr_outside.specs.Machines.{is_ready_for, post_after}
+use Rattle.dr_outside.specs.Pairs.{is_fit, made, half, target}
 
 -- an array's counts after a call: one more at the side where it failed, and else the same
 abbrev pub ArrayCounts : {T : Type 0} → Sides ℕ → Sides ℕ → Result T ArrayFail → Type 0
@@ -52,6 +54,11 @@ fault_side Reverse source = source
 abbrev pub Turns : PortCall → Side → Sides Post → Result (Sides Post) Post → Type 0
 Turns call side old (Ok new) = (is_ready_for call (at side old) ≡ true) × (new ≡ put side (post_after call (at side old)) old)
 Turns call side old (Err found) = (is_ready_for call (at side old) ≡ false) × (found ≡ at side old)
+
+-- what a call makes of a pair, or its target's half where it isn't as the call needs it
+abbrev pub Makes : ArrayCall → Pair → Result Pair Half → Type 0
+Makes call old (Ok new) = (is_fit call old ≡ true) × (new ≡ made call old)
+Makes call old (Err shown) = (is_fit call old ≡ false) × (shown ≡ half (target old) old)
 
 -- a pair that is named is one of the list
 abbrev pub NamesOne : List ℕ → Result (Option (ℕ × Half)) Side → Type 0

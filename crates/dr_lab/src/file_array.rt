@@ -5,11 +5,11 @@ ghost use Rattle.dr_outside.specs.BySide.{at};
 ghost use Rattle.dr_outside.specs.Counts.{one_more_at};
 ghost use Rattle.dr_outside.specs.Arrays.{ArrayCause, NamesListed};
 ghost use Rattle.dr_lab.specs.Opening.{untold_array};
-ghost use Rattle.dr_lab.specs.Counting.{ArrayCounts, fault_side, NamesOne};
+ghost use Rattle.dr_lab.specs.Counting.{ArrayCounts, fault_side, Makes, NamesOne};
 
 use crate::site_files::{read_pair_file, write_pair_file};
 use dr_base::{Failed, Side};
-use dr_outside::{Array, ArrayCall, ArrayFail, Half, Sides};
+use dr_outside::{Array, ArrayCall, ArrayFail, Half, Pair, Sides};
 use std::rt::Files;
 
 /// An array that keeps its pairs in files of the current folder, one for each pair. It counts the
@@ -43,6 +43,16 @@ fn blind_side(call: ArrayCall) -> Side
     fault_side(call, Side::A)
 }
 
+// What a call makes of a pair. Or its target's half, where it isn't as the call needs it.
+fn made(call: ArrayCall, pair: &Pair) -> Result<Pair, Half>
+    ensures { Makes call pair.now result }
+{
+    if !pair.is_fit_for(call) {
+        return Err(pair.shown_at(pair.source.other()));
+    }
+    Ok(pair.after(call))
+}
+
 // The first pair of the list that isn't as the call needs it, and its target's half. Or the side of
 // a fault.
 fn first_unfit<F: Files>(rt: &F, call: ArrayCall, list: &[u32]) -> Result<Option<(u32, Half)>, Side>
@@ -51,8 +61,8 @@ fn first_unfit<F: Files>(rt: &F, call: ArrayCall, list: &[u32]) -> Result<Option
     for k in list {
         match read_pair_file(rt, *k) {
             Ok(pair) => {
-                if !pair.is_fit_for(call) {
-                    return Ok(Some((*k, pair.shown_at(pair.source.other()))));
+                if let Err(half) = made(call, &pair) {
+                    return Ok(Some((*k, half)));
                 }
             }
             Err(Failed) => return Err(blind_side(call)),
@@ -68,10 +78,10 @@ fn make<F: Files>(rt: &F, call: ArrayCall, k: u32) -> Result<(), Side> {
         return Err(blind_side(call));
     };
     let side = fault_side(call, pair.source);
-    if !pair.is_fit_for(call) {
+    let Ok(pair) = made(call, &pair) else {
         return Err(side);
-    }
-    match write_pair_file(rt, k, &pair.after(call)) {
+    };
+    match write_pair_file(rt, k, &pair) {
         Ok(()) => Ok(()),
         Err(Failed) => Err(side),
     }

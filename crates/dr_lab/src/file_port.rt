@@ -8,9 +8,10 @@ ghost use Rattle.dr_outside.specs.Machines.{PortCause, NeverRan, NeverWrong};
 ghost use Rattle.dr_lab.specs.Opening.{untold_port};
 ghost use Rattle.dr_lab.specs.Counting.{PortCounts, Turns};
 
+use crate::kept_text::kept_now;
 use crate::site_files::{code_kept, keep, kept_file, read_machine_file, write_machine_file};
 use dr_base::{Failed, Name, Placement, Side};
-use dr_outside::{Kept, Placed, Port, PortCall, PortFail, Post, Sides, exit_code};
+use dr_outside::{Placed, Port, PortCall, PortFail, Post, Sides};
 use std::rt::Files;
 
 /// A machine that keeps its posts in a file of the current folder, and the commands that it ran in a
@@ -156,15 +157,9 @@ impl<F: Files> Port for FilePort<F> {
             Ok(None) => {}
             Err(Failed) => return Err(self.failed(side)),
         }
-        let code = exit_code(&name);
-        let kept = Kept {
-            token,
-            code,
-            name,
-            side: Some(side),
-        };
+        let kept = kept_now(token, name, Some(side));
         match keep(&self.rt, &file, &kept) {
-            Ok(()) => Ok(code),
+            Ok(()) => Ok(kept.code),
             Err(Failed) => Err(self.failed(side)),
         }
     }

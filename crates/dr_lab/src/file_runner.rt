@@ -5,9 +5,10 @@ ghost use Rattle.dr_outside.specs.Runners.{RunnerCause};
 ghost use Rattle.dr_lab.specs.Opening.{untold_runner};
 ghost use Rattle.dr_lab.specs.Counting.{RunnerCounts};
 
+use crate::kept_text::kept_now;
 use crate::site_files::{code_kept, keep, runner_file};
 use dr_base::{Failed, Name};
-use dr_outside::{Kept, Runner, RunnerFail, exit_code};
+use dr_outside::{Runner, RunnerFail};
 use std::rt::Files;
 
 /// A runner that keeps the commands of plans that it ran in a file of the current folder. It counts
@@ -72,15 +73,9 @@ impl<F: Files> Runner for FileRunner<F> {
             Ok(None) => {}
             Err(Failed) => return Err(self.failed()),
         }
-        let code = exit_code(&name);
-        let kept = Kept {
-            token,
-            code,
-            name,
-            side: None,
-        };
+        let kept = kept_now(token, name, None);
         match keep(&self.rt, &file, &kept) {
-            Ok(()) => Ok(code),
+            Ok(()) => Ok(kept.code),
             Err(Failed) => Err(self.failed()),
         }
     }

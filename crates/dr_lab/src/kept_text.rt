@@ -2,13 +2,14 @@
 
 ghost use Rattle.std.specs.Prelude.{◌≡◌, ◌≤◌, ⊤, length, option_map};
 ghost use Rattle.arrayvec.specs.ArrayVec.{array_vec_len};
+ghost use Rattle.dr_outside.specs.ExitCodes.{exit_code};
 ghost use Rattle.dr_lab.specs.Fields.{field, Reads, Means};
 ghost use Rattle.dr_lab.specs.MachineText.{IsName};
 ghost use Rattle.dr_lab.specs.KeptText.{whose_word, kept_text, IsKept};
 
 use crate::fields::{SmallText, name, number, push_code, push_field, push_number, word};
 use dr_base::{Name, Side};
-use dr_outside::Kept;
+use dr_outside::{Kept, exit_code};
 
 // The side that these bytes name, or that they name none.
 fn whose_of(word: &[u8]) -> Option<Option<Side>>
@@ -34,6 +35,19 @@ fn whose<'a>(bytes: &'a [u8], front: &[u8], end: u8) -> Option<(Option<Side>, &'
     match whose_of(word) {
         Some(found) => Some((found, rest)),
         None => None,
+    }
+}
+
+/// The command that a call of this name runs, which has the code of its name.
+pub(crate) fn kept_now(token: u64, name: Name, side: Option<Side>) -> Kept
+    ensures { result ≡ record { token = token; code = exit_code name; name = name; side = side } }
+{
+    let code = exit_code(&name);
+    Kept {
+        token,
+        code,
+        name,
+        side,
     }
 }
 

@@ -271,6 +271,26 @@ fn a_pair_that_cannot_be_written_is_a_fault_and_stays(rt: HostRuntime) -> Result
     Ok(fs::remove_file(&rt, name)?)
 }
 
+#[test]
+fn a_write_that_fails_leaves_the_pairs_before_as_done(rt: HostRuntime) -> Result<(), Fail> {
+    let names = ["pair-741.site", "pair-742.site"];
+    let beside = "pair-742.site.new";
+    let _ = fs::remove_dir(&rt, beside);
+    for name in names {
+        fs::write(&rt, name, BEHIND)?;
+    }
+    fs::create_dir(&rt, beside)?;
+    let mut array = FileArray::new(&rt, 1024);
+    assert_eq!(rt; array.sync(&[741, 742]), Err(ArrayFail::Failed(Side::A)));
+    assert_eq!(rt; array.pair(741, Side::B), Ok(AT_B));
+    assert_eq!(rt; fs::read_to_string(&rt, names[1])?.as_str(), BEHIND);
+    fs::remove_dir(&rt, beside)?;
+    assert_eq!(rt; array.sync(&[742]), Ok(()));
+    assert_eq!(rt; array.pair(742, Side::B), Ok(AT_B));
+    forget(&rt, &names);
+    Ok(())
+}
+
 fn name(rt: &impl Abort, text: &str) -> Name {
     Name::read(text.as_bytes()).expect(rt, "a name")
 }
@@ -399,6 +419,35 @@ fn a_machine_of_another_form_is_a_fault_and_stays(rt: HostRuntime) -> Result<(),
         assert_eq!(rt; left.as_str(), text.as_str());
     }
     Ok(fs::remove_file(&rt, file)?)
+}
+
+#[test]
+fn a_machine_that_cannot_be_written_is_a_fault_and_stays(rt: HostRuntime) -> Result<(), Fail> {
+    let files = ["machine-725.site", "machine-725.kept"];
+    let besides = ["machine-725.site.new", "machine-725.kept.new"];
+    forget(&rt, &files);
+    for beside in besides {
+        let _ = fs::remove_dir(&rt, beside);
+        fs::create_dir(&rt, beside)?;
+    }
+    let mut port = FilePort::new(&rt, 725);
+    let warm = name(&rt, "warm");
+    assert_eq!(rt;
+        port.register(Side::B, lab(&rt), true),
+        Err(PortFail::Failed)
+    );
+    assert_eq!(rt; port.post(Side::B), Ok(Post::Placeholder));
+    assert_eq!(rt; port.command(Side::B, 1, warm), Err(PortFail::Failed));
+    assert_eq!(rt; port.ran(Side::B, 1), Ok(None));
+    for beside in besides {
+        fs::remove_dir(&rt, beside)?;
+    }
+    assert_eq!(rt; port.register(Side::B, lab(&rt), true), Ok(()));
+    assert_eq!(rt; port.post(Side::B), Ok(Post::Off(in_lab(&rt))));
+    assert_eq!(rt; port.command(Side::B, 1, warm), Ok(0));
+    assert_eq!(rt; port.ran(Side::B, 1), Ok(Some(0)));
+    forget(&rt, &files);
+    Ok(())
 }
 
 #[test]
