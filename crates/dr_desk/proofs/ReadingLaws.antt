@@ -4,6 +4,7 @@ use Rattle.std.specs.Prelude.{Result, Ok, Err, unwrap_or, Option, Some, None}
 use Rattle.dr_base.specs.declared.estate_fault.EstateFault.{EstateFault}
 use Rattle.dr_inventory.specs.declared.estate.Estate.{Estate}
 use Rattle.dr_inventory.specs.Estates.{ReadsAs, IsEstateText, IsTextFault, IsNoTable, IsTable, reading}
+use Rattle.dr_inventory.proofs.OneText.{one_estate}
 use Rattle.dr_setting.specs.declared.setting.Setting.{Setting}
 use Rattle.dr_setting.specs.declared.setting.SettingFault.{SettingFault}
 use Rattle.dr_setting.specs.Settings.{IsSetting, IsFirstFault}
@@ -56,10 +57,6 @@ one_text_fault bytes f g a b = elim a [
 -- an estate's text has no fault
 no_text_fault : (bytes : List ℕ) (estate : Estate) (f : EstateFault) → IsEstateText bytes estate → IsTextFault bytes f → ⊥
 no_text_fault bytes estate f text fault = (let e : Ok estate ≡ Err f = one_way bytes f (Ok estate) fault text in cc e)
-
--- the estate of a text is one
-one_estate : (bytes : List ℕ) (d e : Estate) → IsEstateText bytes d → IsEstateText bytes e → d ≡ e
-one_estate bytes d e a b = ap (λ (r : Result Estate EstateFault). elim r [ Ok x ↦ x | Err f ↦ d ]) (one_text bytes (Ok d) (Ok e) a b)
 
 -- an input is one thing alone
 pub one_reading : (input : List ℕ) (r s : Reading) → IsReading input r → IsReading input s → r ≡ s

@@ -51,7 +51,7 @@ pub all_right : {X Y : Type 0} (f : X → List Y) (P : X → Type 0) → ((x : X
 all_right f P right xs h = All-from_recursion P xs (rows_right f P right xs h)
 
 -- a fact of each row's image
-images : {X Y : Type 0} (g : X → Y) (P : Y → Type 0) (xs : List X) → AllByRecursion (λ x. P (g x)) xs → AllByRecursion P (map g xs)
+pub images : {X Y : Type 0} (g : X → Y) (P : Y → Type 0) (xs : List X) → AllByRecursion (λ x. P (g x)) xs → AllByRecursion P (map g xs)
 images g P [] h = tt
 images g P (x ∷ xs) h = (h.0, images g P xs h.1)
 

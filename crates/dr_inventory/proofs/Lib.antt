@@ -18,3 +18,5 @@ pub mod SoundLimits
 pub mod SoundNames
 pub mod SoundLaws
 pub mod TableFaults
+pub mod Housed
+pub mod OneText

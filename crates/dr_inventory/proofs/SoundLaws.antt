@@ -20,7 +20,7 @@ use Rattle.dr_inventory.proofs.SoundLimits.{within_limits}
 use Rattle.dr_inventory.proofs.SoundNames.{none_twice}
 use Rattle.dr_inventory.proofs.SoundNumbers.{numbers_within}
 
-nothing : {T : Type 0} (fs : List EstateFault) (v x : T) → first_or fs v ≡ Ok x → fs ≡ []
+pub nothing : {T : Type 0} (fs : List EstateFault) (v x : T) → first_or fs v ≡ Ok x → fs ≡ []
 nothing [] v x h = refl
 nothing (f ∷ fs) v x h = cc
 

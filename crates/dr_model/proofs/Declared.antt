@@ -1,5 +1,5 @@
 -- The plans that a journal's Estate declares are regular.
-use Rattle.std.specs.Prelude.{◌≡◌, ℕ, ◌<◌, nat_eq, true, List, [], length, Contains, Some, slice_get, slice_index_or}
+use Rattle.std.specs.Prelude.{◌≡◌, ℕ, ◌<◌, ◌≤◌, nat_eq, true, List, [], ◌∷◌, length, Contains, Some, slice_get, slice_index_or}
 use Rattle.std.specs.List.{list_any, range_with_len}
 use Rattle.std.proofs.Common.{refl, sym, ap, subst, arith}
 use Rattle.std.proofs.lemmas.Bool.{eq-eqb}
@@ -8,14 +8,17 @@ use Rattle.std.proofs.lemmas.List.Folds.{list_any_at}
 use Rattle.std.proofs.lemmas.Option.{slice_get_within, slice_get-get_or}
 use Rattle.dr_inventory.specs.Sound.{IsSound}
 use Rattle.dr_inventory.proofs.SoundLaws.{sound}
+use Rattle.dr_inventory.proofs.Housed.{all_housed}
 use Rattle.dr_groups.specs.Groups.{IsPairOf, IsMachineOf, ListsByGroup}
 use Rattle.dr_groups.proofs.RowLaws.{found_contained, device_below}
+use Rattle.dr_groups.proofs.FaultLaws.{machine_once}
 use Rattle.dr_plan.specs.Rows.{group_numbers, is_held, all_held, planned_machines, planned_pairs}
 use Rattle.dr_plan.specs.Plans.{IsPlanOf, plan_machine}
 use Rattle.dr_plan.specs.Orders.{IsOrdered}
 use Rattle.dr_plan.proofs.OrderLaws.{mapped_to, in_range}
 use Rattle.dr_setting.specs.declared.setting.Setting.{Setting as Whole}
 use Rattle.dr_setting.proofs.PlanFacts.{IsHeldAmong, plan_groups, plan_machine_group}
+use Rattle.dr_inventory.specs.declared.estate.Machine.{Machine}
 use Rattle.dr_model.specs.Types.{PlanMachine, Plan, Estate}
 use Rattle.dr_model.specs.Runs.{Setting}
 use Rattle.dr_model.specs.Journals.{Declares}
@@ -82,3 +85,15 @@ module _ (bytes : List ℕ) (setting : Setting) (d : Declares bytes setting) (nu
 -- the plans of what an Estate declares
 pub declared_regular : (bytes : List ℕ) (setting : Setting) → Declares bytes setting → HasRegularPlans setting
 declared_regular bytes setting d number plan at_plan = regular bytes setting d number plan at_plan
+
+-- the first entry of a list that has one
+first_of : (xs : List ℕ) → 1 ≤ length xs → (x : ℕ) × Contains xs x
+first_of [] some = absurd (omega (arith, some))
+first_of (x ∷ xs) some = (x, found_contained (x ∷ xs) 0 x refl)
+
+-- a machine is on a datastore, and no datastore is in two groups
+pub one_group : (bytes : List ℕ) (setting : Setting) → Declares bytes setting → (g h m : ℕ) → IsMachineOf setting.estate g m → IsMachineOf setting.estate h m → g ≡ h
+one_group bytes setting d g h m in_g in_h =
+    let some : 1 ≤ length in_g.row.datastores = All-contains (λ (x : Machine). 1 ≤ length x.datastores) setting.estate.machines in_g.row (all_housed d.text.table setting.estate d.text.value) (found_contained setting.estate.machines m in_g.row in_g.found) in
+    let (datastore, named) = first_of in_g.row.datastores some in
+    machine_once setting.estate m datastore g h d.is_setting.passes (record { row = in_g.row; found = in_g.found; named = named }) in_g in_h

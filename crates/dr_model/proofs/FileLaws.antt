@@ -1,9 +1,8 @@
 -- A file tells one setting and its runs, and with one record more it tells the runs with that record.
-use Rattle.std.specs.Prelude.{◌≡◌, ℕ, zero, suc, ◌≤◌, ◌⊎◌, List, [], ◌∷◌, ◌++◌, length, take, unwrap_or, Result, Ok, Err}
+use Rattle.std.specs.Prelude.{◌≡◌, ℕ, zero, suc, ◌≤◌, ◌⊎◌, List, [], ◌∷◌, ◌++◌, length, take}
 use Rattle.std.proofs.Common.{refl, sym, ap, ◌∙◌, subst, inl, inr, arith}
 use Rattle.std.proofs.lemmas.List.{append-nil}
-use Rattle.dr_base.specs.declared.estate_fault.EstateFault.{EstateFault}
-use Rattle.dr_inventory.specs.Estates.{IsEstateText, reading}
+use Rattle.dr_inventory.proofs.OneText.{one_estate}
 use Rattle.dr_setting.specs.declared.setting.Setting.{Setting as Whole}
 use Rattle.dr_setting.specs.Settings.{IsSetting}
 use Rattle.dr_setting.proofs.UniqueLaws.{one_setting}
@@ -42,17 +41,7 @@ one_records file xs ys p q =
     let same : p.bodies ≡ q.bodies = whole_same p.bodies q.bodies (sym p.whole ∙ q.whole) in
     one_list q.bodies xs ys (subst (λ l. AreSpelled l xs) same p.spelled) q.spelled
 
--- the estate of a text is one
-abbrev ok_or : Estate → Result Estate EstateFault → Estate
-ok_or e (Ok d) = d
-ok_or e (Err f) = e
-
-one_estate : (bytes : List ℕ) (d e : Estate) → IsEstateText bytes d → IsEstateText bytes e → d ≡ e
-one_estate bytes d e a b =
-    let tables : a.table ≡ b.table = ap (λ o. unwrap_or o a.table) (sym a.is_table.parsed ∙ b.is_table.parsed) in
-    ap (ok_or d) (sym a.value ∙ ap reading tables ∙ b.value)
-
--- and so is the setting that it declares
+-- the setting that an estate's text declares is one
 one_declared : (bytes : List ℕ) (s t : Setting) → Declares bytes s → Declares bytes t → s ≡ t
 one_declared bytes s t a b =
     let estate : s.estate ≡ t.estate = one_estate bytes s.estate t.estate a.text b.text in

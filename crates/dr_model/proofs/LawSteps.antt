@@ -3,6 +3,8 @@ use Rattle.std.specs.Prelude.{◌≡◌, ℕ, ◌<◌, ◌==◌, ◌⊎◌, Bool
 use Rattle.std.proofs.Common.{refl, sym, ap, ◌∙◌, inl, inr, subst}
 use Rattle.dr_groups.specs.Groups.{IsPairOf}
 use Rattle.dr_outside.specs.BySide.{at}
+use Rattle.dr_outside.specs.declared.pair.Half.{Half}
+use Rattle.dr_outside.specs.Arrays.{is_listed, IsWrong}
 use Rattle.dr_outside.specs.Pairs.{frame_of, is_fit, Drift, Made}
 use Rattle.dr_model.specs.Types.{Side, Op, Link, ArrayCall, Pair, Placed, Post, Plan, PlanMachine, StageKind, StartRow, Record}
 use Rattle.dr_model.specs.StartUp.{is_started}
@@ -14,7 +16,7 @@ use Rattle.dr_model.specs.Outcomes.{made_frame}
 use Rattle.dr_model.specs.Lawful.{MayStart, MayFinish, MayCome, LawfulAfter}
 use Rattle.dr_model.specs.Fits.{FitsPair}
 use Rattle.dr_model.specs.InOrder.{is_start_up, InOrder}
-use Rattle.dr_model.specs.Calls.{call_of, Called, IsLeftOut, MadeBy, IsWorked}
+use Rattle.dr_model.specs.Calls.{call_of, Called, IsLeftOut, IsForCall, MadeBy, IsWorked}
 use Rattle.dr_model.specs.Sound.{IsKept, IsSoundBy}
 use Rattle.dr_model.specs.Backing.{IsRegularPlan, HasRegularPlans, IsEntry, IsPlain, Shows, BacksPair, BacksDone, BacksStart}
 use Rattle.dr_model.proofs.Lists.{Each, each-find}
@@ -33,7 +35,8 @@ use Rattle.dr_model.proofs.FitCalls.{snapshot_own, fit_unless_left_out}
 use Rattle.dr_model.proofs.LeftOut.{left_out_drifts, left_out_made, left_out_shows}
 use Rattle.dr_model.proofs.OrderStart.{asides-lawful, in_order-start, none_there}
 use Rattle.dr_model.proofs.SoundAppend.{plain_adds, sound-plain, sound-done, sound-finish}
-use Rattle.dr_model.proofs.LogLaws.{IsGoneThrough, gone-lawful}
+use Rattle.dr_model.proofs.LogLaws.{IsGoneThrough, gone-lawful, unfinished}
+use Rattle.dr_model.proofs.TableLaws.{open_is_last, table-lawful}
 use Rattle.dr_model.proofs.ExcuseLaws.{ExcusesRightly, excuses-lawful}
 use Rattle.dr_model.proofs.FinishLaws.{finish_post}
 use Rattle.dr_model.specs.Reach.{ReachPost}
@@ -199,3 +202,13 @@ worked_back setting records r v earlier old now lawful going shape undone s coun
     by_skip : (b : Bool) → has v.excused all ≡ b → BacksPair now r v p
     by_skip true e = record { made = inl e; shows = λ f. absurd (let wrong : true ≡ false = sym e ∙ f in cc) }
     by_skip false e = go (worked e g p of_group within last)
+
+-- from a sound start no call of the begun stage is refused
+pub not_wrong : (setting : Setting) (records : List Record) (r : Run) (stage : ℕ) (call : ArrayCall) (list : List ℕ) (w : World) (now : ℕ → Pair) (k : ℕ) (half : Half) → LawfulAfter setting [] records → run_at (number r) (runs_of setting records) ≡ Some r → is_open r ≡ true → begun r.log ≡ Some stage → call_of r (stage_at (stages_of r) stage).kind ≡ Some call
+    → ((p : ℕ) → is_listed list p ≡ true → IsForCall setting.estate r (stage_at (stages_of r) stage).kind w p) → IsSoundBy setting (runs_of setting records) w → IsWrong call list w.pair now k half → ⊥
+not_wrong setting records r stage call list w now k half lawful at_n going its of_stage each s wrong =
+    let it = each k wrong.first.listed in
+    let last : last_of_group it.group (runs_of setting records) ≡ Some r = open_is_last (number r) it.group r (runs_of setting records) (table-lawful setting [] records lawful tt) at_n going it.held in
+    let fit : is_fit call (w.pair k) ≡ true = called_fit setting records lawful it.group r last (unfinished (is_finished r) (r.by == 0) going) stage its k (w.pair k) call (s.pairs it.group k it.of_group it.there) of_stage it.needed in
+    let both : true ≡ false = sym fit ∙ wrong.first.unfit in
+    cc

@@ -49,6 +49,17 @@ left_out_drifts run StageKind.Split p q d e = ap (λ f. f.link) d.frame ∙ e
 left_out_drifts run StageKind.Reverse p q d e = ap (λ f. f.source) d.frame ∙ e
 left_out_drifts run _ p q d e = e
 
+-- and only then
+pub left_out_before : (run : Run) (kind : StageKind) (p q : Pair) → Drift p q → IsLeftOut run kind q → IsLeftOut run kind p
+left_out_before run StageKind.Sync p q d e = sym (ap (λ f. f.link) d.frame) ∙ e
+left_out_before run StageKind.FinalSync p q d e = sym (ap (λ f. f.link) d.frame) ∙ e
+left_out_before run StageKind.TestStart p q d e = sym (ap (λ f. f.snapshot) d.frame) ∙ e
+left_out_before run StageKind.TestStop p q d e = sym d.snapshot ∙ e
+left_out_before run StageKind.Prepare p q d e = sym (ap (λ f. at run.old f.writable) d.frame) ∙ e
+left_out_before run StageKind.Split p q d e = sym (ap (λ f. f.link) d.frame) ∙ e
+left_out_before run StageKind.Reverse p q d e = sym (ap (λ f. f.source) d.frame) ∙ e
+left_out_before run _ p q d e = e
+
 -- Frames
 
 put_same : (side : Side) (x : Bool) (w : Sides Bool) → at side w ≡ x → put side x w ≡ w

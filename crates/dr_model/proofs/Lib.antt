@@ -64,3 +64,4 @@ pub mod MachineSound
 pub mod FileLaws
 pub mod WalkEnds
 pub mod FitCalls
+pub mod SoundOpening

@@ -1,5 +1,5 @@
 -- What a stage's calls of the array, of machines and of the runner leave.
-use Rattle.std.specs.Prelude.{◌≡◌, ℕ, ◌⊎◌, Bool, true, false, Option, Some, None, List, Contains}
+use Rattle.std.specs.Prelude.{◌≡◌, ℕ, ◌<◌, ◌⊎◌, Bool, true, false, Option, Some, None, List, Contains}
 use Rattle.dr_groups.specs.Groups.{IsPairOf, IsMachineOf}
 use Rattle.dr_outside.specs.BySide.{at}
 use Rattle.dr_outside.specs.Commands.{code_of}
@@ -46,6 +46,14 @@ IsLeftOut run StageKind.Prepare pair = at run.old pair.writable ≡ false
 IsLeftOut run StageKind.Split pair = pair.link ≡ Link.Split
 IsLeftOut run StageKind.Reverse pair = pair.source ≡ new run
 IsLeftOut run _ pair = Unit {0}
+
+-- a pair that a stage's call is for: the outside has it, in a group that the run holds, and the call doesn't leave it out
+pub record IsForCall (estate : Estate) (run : Run) (kind : StageKind) (world : World) (pair : ℕ) : Type 0 where
+  pub group : ℕ
+  pub of_group : IsPairOf estate group pair
+  pub held : holds group run ≡ true
+  pub there : pair < world.pair_count
+  pub needed : ¬ IsLeftOut run kind (world.pair pair)
 
 -- a pair before and after a call that was Ok: made by it
 abbrev pub MadeBy : Option ArrayCall → Pair → Pair → Type 0

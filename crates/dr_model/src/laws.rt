@@ -6,15 +6,18 @@ ghost use Rattle.std.specs.List.{list_any, AllByRecursion};
 ghost use Rattle.dr_base.specs.Sides.{same_side};
 ghost use Rattle.dr_disk.specs.Disk.{Follows};
 ghost use Rattle.dr_journal.specs.Kept.{SameRecords, Appends, AppendsSome};
-ghost use Rattle.dr_groups.specs.Groups.{IsPairOf};
+ghost use Rattle.dr_groups.specs.Groups.{IsPairOf, IsMachineOf};
 ghost use Rattle.dr_outside.specs.BySide.{at};
+ghost use Rattle.dr_outside.specs.declared.pair.Half.{Half as HalfValue};
+ghost use Rattle.dr_outside.specs.Arrays.{is_listed, IsWrong};
 ghost use Rattle.dr_outside.specs.Pairs.{Drift, Made, Frame, frame_of, is_fit};
 ghost use Rattle.dr_model.specs.Types.{Side as SideValue, Op as OpValue, Pair, Post as PostValue, Placed as PlacedValue, Estate as EstateValue, Plan as PlanValue, PlanMachine as MachineValue, ArrayCall, StageKind as KindValue, Record as RecordValue, StartRow};
 ghost use Rattle.dr_model.specs.Testing.{IsTestedPair, with_snapshot};
-ghost use Rattle.dr_model.specs.Worlds.{World};
+ghost use Rattle.dr_model.specs.Opening.{IsOpeningPair};
+ghost use Rattle.dr_model.specs.Worlds.{World, IsOpeningPost};
 ghost use Rattle.dr_model.specs.Stages.{has, stage_at};
 ghost use Rattle.dr_model.specs.Visits.{Visit, visits, begun, all};
-ghost use Rattle.dr_model.specs.Runs.{Setting, Run, number, op, new, holds, stages_of, is_finished, is_open, run_at, last_of_group, take_in, add_record, runs_of, group_state, root, as_taken};
+ghost use Rattle.dr_model.specs.Runs.{Setting, Run, named_side, number, op, new, holds, stages_of, is_finished, is_open, run_at, last_of_group, take_in, add_record, runs_of, group_state, root, as_taken};
 ghost use Rattle.dr_model.specs.Outcomes.{IsAsWanted};
 ghost use Rattle.dr_model.specs.Reach.{ReachFrame, ReachPost};
 ghost use Rattle.dr_model.specs.Meaning.{is_left, MeansFrame, MeansPost};
@@ -24,7 +27,7 @@ ghost use Rattle.dr_model.specs.Expected.{wanted, ExpectedFrame, ExpectedPost};
 ghost use Rattle.dr_model.specs.Fits.{FitsPair};
 ghost use Rattle.dr_model.specs.InOrder.{is_ready, is_aside, is_start_up, InOrder, keeps, is_ready_at_new, IsPairOfMachine, MayRun};
 ghost use Rattle.dr_model.specs.Journals.{Declares, IsSpelled, HasRecords, Tells, AllTell};
-ghost use Rattle.dr_model.specs.Calls.{call_of, Called, CallsPairs, IsLeftOut, IsWorked, CallsMachines, OnlyKeepsCodes};
+ghost use Rattle.dr_model.specs.Calls.{call_of, Called, CallsPairs, IsLeftOut, IsForCall, IsWorked, CallsMachines, OnlyKeepsCodes};
 ghost use Rattle.dr_model.specs.Sound.{IsKept, IsSoundBy, IsSound, AreSound};
 ghost use Rattle.dr_model.specs.Phases.{IsAtRest, AtRest, PostAtRest};
 ghost use Rattle.dr_model.specs.Backing.{HasRegularPlans, BacksPair, BacksDone, BacksStart, KeepsOrder, IsEntry, IsEarlier, IsPlain};
@@ -113,9 +116,24 @@ pub fn drift_keeps_sound()
         (file : List ℕ) → IsSound world file → IsSound (record world { pair = pairs }) file }
 {}
 
+/// Before any run the outside is sound by none, where each pair and machine of a protection group is as
+/// before any run.
+pub fn opening_is_sound()
+    ensures { (setting : Setting) (world : World) →
+        ((g p : ℕ) → IsPairOf setting.estate g p → p < world.pair_count → IsOpeningPair (named_side setting.estate g) (world.pair p)) →
+        ((g m : ℕ) (side : SideValue) → IsMachineOf setting.estate g m → m < world.machine_count → IsOpeningPost (named_side setting.estate g) side (at side (world.post m))) →
+        IsSoundBy setting [] world }
+{}
+
 /// The plans that a journal's Estate declares are regular.
 pub fn declared_plans_are_regular()
     ensures { (bytes : List ℕ) (setting : Setting) → Declares bytes setting → HasRegularPlans setting }
+{}
+
+/// In a declared setting a machine is of one protection group at most.
+pub fn machine_is_of_one_group()
+    ensures { (bytes : List ℕ) (setting : Setting) → Declares bytes setting → (g h m : ℕ) →
+        IsMachineOf setting.estate g m → IsMachineOf setting.estate h m → g ≡ h }
 {}
 
 /// An open run is the last run of each of its groups.
@@ -263,6 +281,21 @@ pub fn called_pair_is_fit()
         last_of_group group (runs_of setting records) ≡ Some run → is_finished run ≡ false → begun run.log ≡ Some stage →
         FitsPair setting.estate (runs_of setting records) group k p → call_of run (stage_at (stages_of run) stage).kind ≡ Some call →
         ¬ IsLeftOut run (stage_at (stages_of run) stage).kind p → is_fit call p ≡ true }
+{}
+
+/// A drift doesn't change whether a call leaves a pair out.
+pub fn drift_keeps_left_out()
+    ensures { (run : Run) (kind : KindValue) (p q : Pair) → Drift p q → IsLeftOut run kind p ↔ IsLeftOut run kind q }
+{}
+
+/// From a sound start no call of an open run's begun stage is refused, if its list has only pairs that
+/// the call is for.
+pub fn calls_are_not_wrong()
+    ensures { (setting : Setting) (records : List RecordValue) (run : Run) (stage : ℕ) (call : ArrayCall) (list : List ℕ) (world : World) (now : ℕ → Pair) (k : ℕ) (half : HalfValue) →
+        LawfulAfter setting [] records → run_at (number run) (runs_of setting records) ≡ Some run → is_open run ≡ true → begun run.log ≡ Some stage →
+        call_of run (stage_at (stages_of run) stage).kind ≡ Some call →
+        ((p : ℕ) → is_listed list p ≡ true → IsForCall setting.estate run (stage_at (stages_of run) stage).kind world p) →
+        IsSoundBy setting (runs_of setting records) world → ¬ IsWrong call list world.pair now k half }
 {}
 
 /// Under an unfinished test a pair that fits and has a snapshot has that of the test.
