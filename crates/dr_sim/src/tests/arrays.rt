@@ -88,6 +88,21 @@ fn a_move_takes_the_pairs_that_it_needs(rt: HostRuntime) {
 }
 
 #[test]
+fn a_pair_is_turned_only_once_its_source_is_frozen(rt: HostRuntime) {
+    let mut array = opened(rt.alloc(), THREE_PAIRS, &[], &[]).expect(&rt, "an array");
+    let array = &mut array;
+    let over = writable(split(target(9, 95, 95)));
+    assert!(rt; does(array, ArrayCall::Failover(9), &ALL));
+    assert!(rt; refuses(array, ArrayCall::Reverse, &ALL, 0, &over));
+    assert!(rt; does(array, ArrayCall::Prepare, &[0, 1]));
+    assert!(rt; refuses(array, ArrayCall::Reverse, &ALL, 2, &over));
+    assert!(rt; shows(array, 1, Side::B, &over));
+    assert!(rt; does(array, ArrayCall::Prepare, &[2]));
+    assert!(rt; does(array, ArrayCall::Reverse, &ALL));
+    assert!(rt; shows(array, 2, Side::A, &from_b(target(9, 95, 95))));
+}
+
+#[test]
 fn a_refused_call_names_the_first_pair_and_changes_none(rt: HostRuntime) {
     let mut array = opened(rt.alloc(), THREE_PAIRS, &[], &[]).expect(&rt, "an array");
     let array = &mut array;

@@ -1,7 +1,8 @@
 //! Faults and fuses of a simulated array.
 
 use super::samples::{
-    ALL, THREE_PAIRS, does, fails, hides, opened, shows, split, target, tested, writable,
+    ALL, CROSSED_PAIRS, THREE_PAIRS, does, fails, hides, opened, shows, split, target, tested,
+    writable,
 };
 use crate::{ArrayFault, SimArray};
 use dr_base::Side;
@@ -42,6 +43,17 @@ fn a_call_fails_after_whole_consistency_groups(rt: HostRuntime) {
         );
         assert!(rt; is_over_after(&mut array, over), "after {done}");
     }
+}
+
+#[test]
+fn consistency_groups_go_by_their_first_pairs_in_the_list(rt: HostRuntime) {
+    let faults = [fault(1, Side::B, 1)];
+    let mut array = opened(rt.alloc(), CROSSED_PAIRS, &faults, &[]).expect(&rt, "an array");
+    assert!(rt; fails(&mut array, ArrayCall::Failover(9), &ALL, Side::B));
+    assert!(rt; is_over_after(&mut array, [true, false, true]));
+    let mut array = opened(rt.alloc(), CROSSED_PAIRS, &faults, &[]).expect(&rt, "an array");
+    assert!(rt; fails(&mut array, ArrayCall::Failover(9), &[1, 2], Side::B));
+    assert!(rt; is_over_after(&mut array, [false, true, false]));
 }
 
 #[test]

@@ -70,6 +70,49 @@ fn a_start_fails_before_half_way_and_done(rt: HostRuntime) {
 }
 
 #[test]
+fn a_registration_and_its_undoing_fail_before_and_done(rt: HostRuntime) {
+    let lab = &placed(&rt, "lab", true);
+    for leaves in 0..3 {
+        let mut port = opened(
+            rt.alloc(),
+            &rt,
+            Side::A,
+            &[fault(1, leaves), fault(4, leaves)],
+        );
+        let (registered, taken_away) = if leaves == 0 {
+            (Post::Placeholder, Post::Off(*lab))
+        } else {
+            (Post::Off(*lab), Post::Placeholder)
+        };
+        assert_eq!(rt;
+            port.register(Side::B, lab.place, true),
+            Err(PortFail::Failed),
+            "{leaves}"
+        );
+        assert_eq!(rt; port.post(Side::B), Ok(registered), "{leaves}");
+        let _ = port.register(Side::B, lab.place, true);
+        assert_eq!(rt; port.unregister(Side::B), Err(PortFail::Failed), "{leaves}");
+        assert_eq!(rt; port.post(Side::B), Ok(taken_away), "{leaves}");
+    }
+}
+
+#[test]
+fn a_command_fails_before_and_done(rt: HostRuntime) -> Result<(), Fail> {
+    for (leaves, code) in [(0, None), (1, Some(7)), (2, Some(7))] {
+        let mut port = opened(rt.alloc(), &rt, Side::A, &[fault(1, leaves)]);
+        port.room(rt.alloc(), 1)?;
+        let seven = name(&rt, "exit-7");
+        assert_eq!(rt;
+            port.command(Side::B, 5, seven),
+            Err(PortFail::Failed),
+            "{leaves}"
+        );
+        assert_eq!(rt; port.ran(Side::B, 5), Ok(code), "{leaves}");
+    }
+    Ok(())
+}
+
+#[test]
 fn a_stop_fails_before_and_done(rt: HostRuntime) {
     let home = &placed(&rt, "A", false);
     for (leaves, post) in [
@@ -190,6 +233,41 @@ fn a_runner_runs_a_command_once_where_there_is_room(rt: HostRuntime) -> Result<(
     runner.fuse(u64::MAX);
     assert_eq!(rt; runner.ran(6), Ok(Some(0)));
     assert_eq!(rt; runner.call(7, seven), Err(RunnerFail::Failed));
+    Ok(())
+}
+
+// Whether of six calls of a runner all before this one are done, and all others fail.
+fn runner_burns(runner: &mut SimRunner, calls: u64, warm: Name) -> bool {
+    for number in 0..6 {
+        let token = number / 2;
+        let answer = if number % 2 == 0 {
+            runner.call(token, warm).map(|_| ())
+        } else {
+            runner.ran(token).map(|_| ())
+        };
+        if answer.is_ok() != (number < calls) {
+            return false;
+        }
+    }
+    true
+}
+
+#[test]
+fn a_spent_fuse_of_a_runner_fails_every_call_and_keeps_nothing(
+    rt: HostRuntime,
+) -> Result<(), Fail> {
+    let warm = name(&rt, "warm");
+    for calls in 0..7 {
+        let mut runner = SimRunner::new(Vec::new(rt.alloc()));
+        runner.room(rt.alloc(), 3)?;
+        runner.fuse(calls);
+        assert!(rt; runner_burns(&mut runner, calls, warm), "after {calls}");
+        runner.fuse(u64::MAX);
+        for token in 0..3 {
+            let code = if token * 2 < calls { Some(0) } else { None };
+            assert_eq!(rt; runner.ran(token), Ok(code), "after {calls}");
+        }
+    }
     Ok(())
 }
 

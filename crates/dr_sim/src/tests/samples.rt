@@ -28,6 +28,20 @@ protects = "A"
 datastores = ["ds1", "ds2"]
 "#;
 
+/// The first and the last of three pairs are one consistency group, all protected at A.
+pub const CROSSED_PAIRS: &str = r#"form = 1
+[[datastore]]
+name = "ds1"
+devices = ["d1", "d2", "d3"]
+[[consistency]]
+name = "c"
+devices = ["d1", "d3"]
+[[group]]
+name = "g1"
+protects = "A"
+datastores = ["ds1"]
+"#;
+
 pub const ALL: [u32; 3] = [0, 1, 2];
 
 pub fn name(rt: &impl Abort, text: &str) -> Name {
