@@ -277,7 +277,7 @@ module _ (source_tells sink_tells array_tells port_tells : Type 0) (words : List
     -- where no call failed, only a finished test answers
     module _ (at : array_tells) (pt : port_tells) (pairs : HasOpeningPairs old) (machines : HasOpeningMachines old) (none : NoneRose source old new sink) where
       done_only : (answer : Answer) → RunCause array_tells port_tells estate plan old new answer → answer ≡ Done 1
-      done_only (Done run) cause = ap Done cause
+      done_only (Done run) cause = ap Done cause.0
       done_only (ArrayFault side) cause = absurd (none.array_faults side cause.0)
       done_only (PortFault m) cause = absurd (none.port_faults m B cause.failed.rose)
       done_only (Foreign (Pair k) wanted found) cause = absurd (cause.0.foreign at pairs)

@@ -114,7 +114,7 @@ request_key request_faults.ReadFault p = absurd p
 request_key request_faults.NoMemory p = absurd p
 
 -- an answer's line has the bytes of its kind
-key_told : (estate : Option Estate) (a : Answer) → IsAnswer a → key (answer_text_of estate a) ≡ key_of a
+pub key_told : (estate : Option Estate) (a : Answer) → IsAnswer a → key (answer_text_of estate a) ≡ key_of a
 key_told estate (answers.Estate f) p = estate_key f p
 key_told estate (answers.Groups f) p = group_key estate f p
 key_told estate (answers.Plan n f) p = plan_key estate n f p.1

@@ -8,3 +8,4 @@ pub mod RefusalLaws
 pub mod AnswerLaws
 pub mod OwnerLaws
 pub mod WaveLaws
+pub mod ReportLaws

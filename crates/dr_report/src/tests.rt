@@ -304,6 +304,43 @@ fn machines_and_pairs_go_by_their_names(rt: HostRuntime) -> Result<(), Fail> {
 }
 
 #[test]
+fn each_kind_of_missing_map_has_its_word(rt: HostRuntime) -> Result<(), Fail> {
+    let alloc = rt.alloc();
+    let estate = estate_of(&rt, alloc)?;
+    let network = Answer::Unmapped(Unmapped {
+        machine: 3,
+        kind: Kind::Network,
+        side: Side::B,
+    });
+    shows(
+        &rt,
+        alloc,
+        Some(&estate),
+        &network,
+        "2 unmapped db network B\n",
+    );
+    let folder = Answer::Unmapped(Unmapped {
+        machine: 4,
+        kind: Kind::Folder,
+        side: Side::B,
+    });
+    shows(
+        &rt,
+        alloc,
+        Some(&estate),
+        &folder,
+        "2 unmapped web folder B\n",
+    );
+    let pool = Answer::Unmapped(Unmapped {
+        machine: 0,
+        kind: Kind::Pool,
+        side: Side::A,
+    });
+    shows(&rt, alloc, Some(&estate), &pool, "2 unmapped a pool A\n");
+    Ok(())
+}
+
+#[test]
 fn faulty_groups_and_states_go_by_names(rt: HostRuntime) -> Result<(), Fail> {
     let alloc = rt.alloc();
     let estate = estate_of(&rt, alloc)?;

@@ -1,6 +1,6 @@
 -- Machine by machine: what trying the machines of one wave leaves so far.
 use Rattle.std.proofs.Common.{◌≡◌, ◌≢◌, ℕ, ◌+◌, ◌≤◌, ◌<◌, inl, inr, Bool, true, false, List, length, take, get_or, refl, sym, ◌∙◌, ap, subst, arith, ◌||◌, length-take, get_or-take}
-use Rattle.std.proofs.lemmas.Bool.{cases_eq, le-ltb, lt-ltb, eq-eqb, ne_eqb}
+use Rattle.std.proofs.lemmas.Bool.{false≢true, cases_eq, le-ltb, lt-ltb, eq-eqb, ne_eqb}
 use Rattle.std.specs.List.Sorted.{IsStrictlyIncreasing}
 use Rattle.std.specs.Prelude.{Result, Ok, Err, Option, Some, None, IfSome, nat_lt}
 use Rattle.dr_base.specs.declared.side.Side.TheVariants.{B}
@@ -14,7 +14,7 @@ use Rattle.dr_model.specs.Testing.{in_bubble}
 use Rattle.dr_testing.specs.declared.start_up.RefusedMachine.{RefusedMachine}
 use Rattle.dr_testing.specs.declared.start_up.StartFail.{StartFail}
 use Rattle.dr_testing.specs.declared.start_up.StartFail.TheVariants.{Failed, Refused}
-use Rattle.dr_testing.specs.Starts.{NoneFalls, ChangesAtB, StartStep, StartCause, StartTold, ToldRefusal, WaveStep, Tried, EachPlaceholder, IsFailedMachine, IsRefusedMachine, IsToldMachine, is_before, failed_after, refused_after}
+use Rattle.dr_testing.specs.Starts.{NoneFalls, ChangesAtB, StartStep, StartCause, StartTold, ToldRefusal, WaveStep, Tried, EachPlaceholder, WerePlaceholders, IsFailedMachine, IsRefusedMachine, IsToldMachine, is_before, is_unrefused, failed_after, refused_after}
 
 -- a later count that rose from one that didn't fall
 pub rose_later : (a b c : ℕ) → a ≤ b → Rose b c → Rose a c
@@ -48,6 +48,8 @@ pub record TriedUpTo (wave : List ℕ) (place : ℕ → Placement) (tells : Type
   pub first : IfSome first_failed (IsAmong wave n)
   pub refused : IfSome first_refused (IsRefusedMachine wave place)
   pub told : tells → IfSome first_refused (IsToldMachine initial)
+  pub among : IfSome first_refused (λ r. IsAmong wave n r.machine)
+  pub passed : tells → WerePlaceholders (take n wave) first_failed first_refused initial
   pub step : tells → EachPlaceholder wave initial → (j : ℕ) → WaveStep (is_listed (take n wave) j) (is_before first_failed j) (in_bubble (place j)) (initial j) (now j)
   pub only_failed : tells → EachPlaceholder wave initial → first_refused ≡ None
 
@@ -69,6 +71,8 @@ none_tried wave place tells initial = record {
   first = tt;
   refused = tt;
   told = λ t. tt;
+  among = tt;
+  passed = λ t e j l u. absurd (false≢true l);
   step = λ t p j. refl;
   only_failed = λ t p. refl;
 }
@@ -170,6 +174,31 @@ module _ (wave : List ℕ) (rises : IsStrictlyIncreasing wave) (place : ℕ → 
     told_more None (Err (Refused want found)) a t h = subst (λ (m : PortState). ToldRefusal m.post.b want found) was_initial (a.told t)
     told_more (Some m) (Err (Refused want found)) a t h = h
 
+    among_more : (r : Option RefusedMachine) (result : Result (Unit {0}) StartFail) → IfSome r (λ r. IsAmong wave n r.machine) → IfSome (refused_after r i result) (λ r. IsAmong wave (n + 1) r.machine)
+    among_more None (Ok _) h = tt
+    among_more (Some m) (Ok _) h = further m.machine h
+    among_more None (Err Failed) h = tt
+    among_more (Some m) (Err Failed) h = further m.machine h
+    among_more None (Err (Refused want found)) h = record { at = n; early = omega arith; is = at }
+    among_more (Some m) (Err (Refused want found)) h = further m.machine h
+
+    some_none : (m : ℕ) → (Some m) ≡ None → ⊥
+    some_none m e = cc e
+
+    -- the machine that was started was a placeholder, where none failed and it comes before the first refused one
+    passed_here : (f : Option ℕ) (r : Option RefusedMachine) (result : Result (Unit {0}) StartFail) → StartsAt tells (place i) i before after result → tells → IfSome r (λ r. IsAmong wave n r.machine) → failed_after f i result ≡ None → is_unrefused (refused_after r i result) i ≡ true → (initial i).post.b ≡ Placeholder
+    passed_here f r (Ok u) a t h e u' = subst (λ (m : PortState). m.post.b ≡ Placeholder) was_initial (a.told t)
+    passed_here f r (Err Failed) a t h e u' = absurd (some_none _ e)
+    passed_here f None (Err (Refused want found)) a t h e u' = absurd (false≢true (sym (le-ltb i i (omega arith)) ∙ u'))
+    passed_here f (Some m) (Err (Refused want found)) a t h e u' = absurd (false≢true (sym (le-ltb i m.machine (omega (arith, among_below m.machine h))) ∙ u'))
+
+    -- the same of one that was started before
+    passed_there : (f : Option ℕ) (r : Option RefusedMachine) (result : Result (Unit {0}) StartFail) (j : ℕ) → WerePlaceholders (take n wave) f r initial → is_listed (take n wave) j ≡ true → failed_after f i result ≡ None → is_unrefused (refused_after r i result) j ≡ true → (initial j).post.b ≡ Placeholder
+    passed_there f r (Ok u) j w l e u' = w e j l u'
+    passed_there f r (Err Failed) j w l e u' = absurd (some_none _ e)
+    passed_there f None (Err (Refused want found)) j w l e u' = w e j l refl
+    passed_there f (Some m) (Err (Refused want found)) j w l e u' = w e j l u'
+
     -- where each machine of the wave was a placeholder
     module _ (t : tells) (placeholders : EachPlaceholder wave initial) where
       was_placeholder : (before i).post.b ≡ Placeholder
@@ -220,6 +249,11 @@ module _ (wave : List ℕ) (rises : IsStrictlyIncreasing wave) (place : ℕ → 
       first = first_more failed result s.first;
       refused = refused_more refused result a s.refused;
       told = λ t. told_more refused result a t (s.told t);
+      among = among_more refused result s.among;
+      passed = λ t e j l u. elim (cases_eq j i) [
+        | inl same ↦ rw same (passed_here failed refused result a t s.among e (rw same at u))
+        | inr ne ↦ passed_there failed refused result j (s.passed t) (sym (listed_as_before j ne) ∙ l) e u
+      ];
       step = λ t p j. elim (cases_eq j i) [
         | inl e ↦ rw (e, listed_now) (step_here t p failed result a s.first)
         | inr ne ↦ rw (a.others j ne, listed_as_before j ne) (step_there t p failed result j (is_listed (take n wave) j) refl (s.step t p j))

@@ -219,7 +219,7 @@ fits_alike run p q a =
     ap (λ (f : Frame). is_live f.link && not (is_some q.snapshot)) a.frame ∙ ap (λ (s : Option Snapshot). is_live p.link && not (is_some s)) a.snapshot
 
 -- replication failed or was refused
-pub told_by_sync : (run : ℕ) (list : List ℕ) (old new : ArrayState) (fail : ArrayFail) → ArrayStep Sync list old new (Err fail) → StorageTold run old.pair (Err fail)
+pub told_by_sync : (run : ℕ) (list : List ℕ) (old new : ArrayState) (fail : ArrayFail) → ArrayStep Sync list old new (Err fail) → StorageTold run list old.pair (Err fail)
 told_by_sync run list old new (Failed side) s = tt
 told_by_sync run list old new (Wrong k found) s = record {
   unfit = ap (λ (b : Bool). b && not (is_some (old.pair k).snapshot)) s.first.unfit;
@@ -227,8 +227,11 @@ told_by_sync run list old new (Wrong k found) s = record {
 }
 
 -- replication was done, and the snapshots were taken, or failed, or were refused
-pub told_by_start : (run : ℕ) (list : List ℕ) (old mid new : ArrayState) → EachStep Sync (is_listed list) old.pair mid.pair → (result : Result (Unit {0}) ArrayFail) → ArrayStep (TestStart run) list mid new result → StorageTold run old.pair result
-told_by_start run list old mid new sync (Ok done) s = tt
+pub told_by_start : (run : ℕ) (list : List ℕ) (old mid new : ArrayState) → EachStep Sync (is_listed list) old.pair mid.pair → (result : Result (Unit {0}) ArrayFail) → ArrayStep (TestStart run) list mid new result → StorageTold run list old.pair result
+told_by_start run list old mid new sync (Ok done) s = λ i listed.
+    let alike : Alike (old.pair i) (mid.pair i) = alike_after_sync (is_listed list i) (old.pair i) (mid.pair i) (sync i) in
+    let made : Made (TestStart run) (mid.pair i) (new.pair i) = rw listed at (s i) in
+    sym (fits_alike run (old.pair i) (mid.pair i) alike) ∙ made.fit
 told_by_start run list old mid new sync (Err (Failed side)) s = tt
 told_by_start run list old mid new sync (Err (Wrong k found)) s =
     let alike : Alike (old.pair k) (mid.pair k) = alike_after_sync (is_listed list k) (old.pair k) (mid.pair k) (sync k) in

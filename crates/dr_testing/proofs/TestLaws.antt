@@ -26,7 +26,7 @@ use Rattle.dr_testing.specs.declared.start_up.StartEnd.TheVariants.{Done as AllD
 use Rattle.dr_testing.specs.Placing.{wanted_place, wanted_at, wave_of, is_planned}
 use Rattle.dr_testing.specs.Starts.{ChangesAtB, StandsAsWanted, FailedAt, TriedAt, AllCause, AllTold, AllStep, AllPlaceholders}
 use Rattle.dr_testing.specs.Tests.{IsTestable, Site, RunCause, MachinesDone, AreInOrder, AreTestedPairs, AreTestedByGroup, KeepsPairs, KeepsMachines, PairsDone, IsToldPair, opening_code, refused_code, answer_of}
-use Rattle.dr_testing.specs.Storage.{PairDone, SomeSnapshots, IsUnfitPair}
+use Rattle.dr_testing.specs.Storage.{AreFit, PairDone, SomeSnapshots, IsUnfitPair}
 use Rattle.dr_testing.proofs.PlanLaws.{IsRowOf, row_of, planned_of, planned_in_wave, in_wave_planned, earlier_wave}
 use Rattle.dr_testing.proofs.StorageLaws.{beside}
 
@@ -170,17 +170,19 @@ told_pair old found u = record {
 
 module _ (array_tells port_tells : Type 0) (estate : Estate) (plan : Plan) (testable : IsTestable estate plan) (are : AreWaves plan (waves_of plan)) (old new : Site) (enough : length estate.machines ≤ old.slots) where
   -- the cause of a test that came to the machines
-  pub machine_cause : (end : StartEnd) → AllCause (waves_of plan) (wanted_place estate) old.machine new.machine end → (port_tells → AllTold old.machine end) → (port_tells → AllPlaceholders (waves_of plan) old.machine → AllStep (waves_of plan) (wanted_at estate) old.machine new.machine end)
-      → RunCause array_tells port_tells estate plan old new (answer_of end)
-  machine_cause AllDone cause told step = refl
-  machine_cause (Failed m) cause told step = record {
+  pub machine_cause : (end : StartEnd) → AllCause (waves_of plan) (wanted_place estate) old.machine new.machine end → (port_tells → AllTold (waves_of plan) old.machine end) → (port_tells → AllPlaceholders (waves_of plan) old.machine → AllStep (waves_of plan) (wanted_at estate) old.machine new.machine end)
+      → (array_tells → AreFit 1 plan.pairs old.array.pair) → RunCause array_tells port_tells estate plan old new (answer_of end)
+  machine_cause AllDone cause told step fit = (refl, λ t i h. told t i (has_wave estate plan testable (waves_of plan) are i h), fit)
+  machine_cause (Failed m) cause told step fit = record {
     planned = planned estate plan testable (waves_of plan) are m cause.listed;
     failed = cause;
     tried = λ t opening. step t (placeholders_before estate plan testable (waves_of plan) are old.slots enough old.machine new.machine opening);
   }
-  machine_cause (Refused refused) cause told step = record {
+  machine_cause (Refused refused) cause told step fit = record {
     planned = planned estate plan testable (waves_of plan) are refused.machine cause.listed;
     codes = cause.codes;
-    told = told;
+    untouched = cause.untouched;
+    told = λ t. (told t).0;
+    first = λ t. (told t).1;
     foreign = λ t opening. step t (placeholders_before estate plan testable (waves_of plan) are old.slots enough old.machine new.machine opening);
   }

@@ -8,14 +8,14 @@ use Rattle.dr_base.specs.declared.side.Side.TheVariants.{B}
 use Rattle.dr_base.specs.declared.placement.Placement.{Placement}
 use Rattle.dr_inventory.specs.declared.estate.Estate.{Estate}
 use Rattle.dr_plan.specs.declared.plan.Wave.{Wave}
-use Rattle.dr_outside.specs.declared.machine.Post.TheVariants.{Ready}
+use Rattle.dr_outside.specs.declared.machine.Post.TheVariants.{Placeholder, Ready}
 use Rattle.dr_outside.specs.Arrays.{is_listed}
 use Rattle.dr_outside.specs.Machines.{PortState}
 use Rattle.dr_model.specs.Testing.{in_bubble}
 use Rattle.dr_testing.specs.declared.start_up.RefusedMachine.{RefusedMachine}
 use Rattle.dr_testing.specs.declared.start_up.StartEnd.TheVariants.{Failed, Refused}
 use Rattle.dr_testing.specs.Placing.{wave_of, AreStartable}
-use Rattle.dr_testing.specs.Starts.{NoneFalls, ChangesAtB, WaveStep, Tried, EachPlaceholder, IsFailedMachine, IsRefusedMachine, IsToldMachine, is_before, AllPlaceholders, AllCause, AllStep}
+use Rattle.dr_testing.specs.Starts.{NoneFalls, ChangesAtB, WaveStep, Tried, EachPlaceholder, IsFailedMachine, IsRefusedMachine, IsToldMachine, WerePlaceholders, is_before, AllPlaceholders, AllCause, AllTold, AllStep}
 use Rattle.dr_testing.proofs.StartLaws.{rose_later}
 
 -- the machines of so many waves were started
@@ -24,6 +24,7 @@ pub record StartedBelow (waves : List Wave) (place : ℕ → Placement) (tells :
   pub elsewhere : tells → (j : ℕ) → ChangesAtB (initial j) (now j)
   pub above : (j : ℕ) → n ≤ wave_of waves j → now j ≡ initial j
   pub ready : tells → AllPlaceholders waves initial → (j : ℕ) → wave_of waves j < n → (now j).post.b ≡ Ready (in_bubble (place j))
+  pub passed : tells → (j : ℕ) → wave_of waves j < n → (initial j).post.b ≡ Placeholder
 
 -- the machines of one wave were tried
 pub record WaveDone (wave : List ℕ) (place : ℕ → Placement) (tells : Type 0) (first_failed : Option ℕ) (first_refused : Option RefusedMachine) (before now : ℕ → PortState) : Type 0 where
@@ -33,6 +34,7 @@ pub record WaveDone (wave : List ℕ) (place : ℕ → Placement) (tells : Type 
   pub failed : IfSome first_failed (IsFailedMachine wave before now)
   pub refused : IfSome first_refused (IsRefusedMachine wave place)
   pub told : tells → IfSome first_refused (IsToldMachine before)
+  pub passed : tells → WerePlaceholders wave first_failed first_refused before
   pub step : tells → EachPlaceholder wave before → (i : ℕ) → WaveStep (is_listed wave i) (is_before first_failed i) (in_bubble (place i)) (before i) (now i)
   pub only_failed : tells → EachPlaceholder wave before → first_refused ≡ None
 
@@ -49,6 +51,7 @@ none_started waves place tells initial = record {
   elsewhere = λ t j. record { protected = refl; kept = refl };
   above = λ j le. refl;
   ready = λ t p j lt. absurd (omega (arith, lt));
+  passed = λ t j lt. absurd (omega (arith, lt));
 }
 
 module _ (waves : List Wave) (place : ℕ → Placement) (tells : Type 0) (n : ℕ) (wave : List ℕ) (it : IsWaveAt waves n wave) (initial before now : ℕ → PortState) (s : StartedBelow waves place tells n initial before) where
@@ -100,6 +103,10 @@ module _ (waves : List Wave) (place : ℕ → Placement) (tells : Type 0) (n : �
           step
       | inr ne ↦ still_ready None None w t p j (omega arith)
     ];
+    passed = λ t j lt. elim (cases_eq (wave_of waves j) n) [
+      | inl e ↦ rw (← s.above j (omega (arith, e))) (w.passed t refl j (it.on j e) refl)
+      | inr ne ↦ s.passed t j (omega arith)
+    ];
   }
 
   -- one failed
@@ -136,10 +143,23 @@ module _ (waves : List Wave) (place : ℕ → Placement) (tells : Type 0) (n : �
     refused_cause = record {
       listed = omega (arith, it.back r.machine w.refused.listed, it.within);
       codes = w.refused.codes;
+      untouched = λ j lt. above_all None (Some r) w j (omega (arith, lt, it.back r.machine w.refused.listed));
     }
 
-    pub refused_told : tells → IsToldMachine initial r
-    refused_told t = rw (← s.above r.machine (omega (arith, it.back r.machine w.refused.listed))) (w.told t)
+    r_wave : wave_of waves r.machine ≡ n
+    r_wave = it.back r.machine w.refused.listed
+
+    pub refused_told : tells → AllTold waves initial (Refused r)
+    refused_told t =
+        let codes : IsToldMachine initial r = rw (← s.above r.machine (omega (arith, r_wave))) (w.told t) in (
+          codes,
+          record {
+            earlier = λ j lt. s.passed t j (omega (arith, lt, r_wave));
+            least = λ j lt e.
+                let is : wave_of waves j ≡ n = e ∙ r_wave in
+                rw (← s.above j (omega (arith, is))) (w.passed t refl j (it.on j is) (lt-ltb j r.machine lt));
+          },
+        )
 
     pub refused_step : tells → AllPlaceholders waves initial → ⊥
     refused_step t p = cc (w.only_failed t (placeholders None (Some r) w p))

@@ -38,9 +38,9 @@ IsRefusal place want found =
 abbrev pub ToldRefusal : Post → ℕ → ℕ → Type 0
 ToldRefusal post want found = (want ≡ post_code B None Placeholder) × (found ≡ told_by_refusal (post_code B None post))
 
--- a start that was refused tells the codes of the post that stood at B before
+-- a start that succeeds began at a placeholder, and one that was refused tells the codes of the post that stood at B before
 abbrev pub StartTold : Post → Result (Unit {0}) StartFail → Type 0
-StartTold post (Ok _) = Unit {0}
+StartTold post (Ok _) = post ≡ Placeholder
 StartTold post (Err Failed) = Unit {0}
 StartTold post (Err (Refused want found)) = ToldRefusal post want found
 
@@ -65,6 +65,11 @@ abbrev pub is_before : Option ℕ → ℕ → Bool
 is_before None i = true
 is_before (Some failed) i = nat_lt i failed
 
+-- whether a number comes before the first refused machine
+abbrev pub is_unrefused : Option RefusedMachine → ℕ → Bool
+is_unrefused None i = true
+is_unrefused (Some refused) i = nat_lt i refused.machine
+
 -- the first failed machine, after one more start
 abbrev pub failed_after : Option ℕ → ℕ → Result (Unit {0}) StartFail → Option ℕ
 failed_after earlier machine (Ok _) = earlier
@@ -85,6 +90,10 @@ pub record Tried (wanted : Placed) (old new : PortState) : Type 0 where
 -- each machine of a wave is a placeholder at B
 abbrev pub EachPlaceholder : List ℕ → (ℕ → PortState) → Type 0
 EachPlaceholder wave machine = (i : ℕ) → is_listed wave i ≡ true → (machine i).post.b ≡ Placeholder
+
+-- where none of a wave failed, each machine of it before the first refused one was a placeholder at B
+abbrev pub WerePlaceholders : List ℕ → Option ℕ → Option RefusedMachine → (ℕ → PortState) → Type 0
+WerePlaceholders wave failed refused machine = failed ≡ None → (i : ℕ) → is_listed wave i ≡ true → is_unrefused refused i ≡ true → (machine i).post.b ≡ Placeholder
 
 -- the machine that failed: one of the wave, whose count rose
 pub record IsFailedMachine (wave : List ℕ) (old new : ℕ → PortState) (i : ℕ) : Type 0 where
@@ -116,22 +125,28 @@ pub record FailedAt (waves : List Wave) (old new : ℕ → PortState) (i : ℕ) 
   pub rose : Rose ((old i).faults B) ((new i).faults B)
   pub untouched : (j : ℕ) → wave_of waves i < wave_of waves j → new j ≡ old j
 
--- a machine of the waves that was refused, with the codes of the refusal
-pub record RefusedAt (waves : List Wave) (place : ℕ → Placement) (refused : RefusedMachine) : Type 0 where
+-- a machine of the waves that was refused, with the codes of the refusal: no machine of a later wave was touched
+pub record RefusedAt (waves : List Wave) (place : ℕ → Placement) (old new : ℕ → PortState) (refused : RefusedMachine) : Type 0 where
   pub listed : wave_of waves refused.machine < length waves
   pub codes : IsRefusal (place refused.machine) refused.wanted refused.found
+  pub untouched : (j : ℕ) → wave_of waves refused.machine < wave_of waves j → new j ≡ old j
 
 -- when starting all waves ends so
 abbrev pub AllCause : List Wave → (ℕ → Placement) → (ℕ → PortState) → (ℕ → PortState) → StartEnd → Type 0
 AllCause waves place old new Done = Unit {0}
 AllCause waves place old new (EndFailed i) = FailedAt waves old new i
-AllCause waves place old new (EndRefused refused) = RefusedAt waves place refused
+AllCause waves place old new (EndRefused refused) = RefusedAt waves place old new refused
 
--- where a machine was refused, its codes are those of its own post at B before
-abbrev pub AllTold : (ℕ → PortState) → StartEnd → Type 0
-AllTold old Done = Unit {0}
-AllTold old (EndFailed i) = Unit {0}
-AllTold old (EndRefused refused) = IsToldMachine old refused
+-- each machine of an earlier wave than this one's, and of the same wave with a lesser number, was a placeholder at B
+pub record IsFirstRefused (waves : List Wave) (old : ℕ → PortState) (machine : ℕ) : Type 0 where
+  pub earlier : (j : ℕ) → wave_of waves j < wave_of waves machine → (old j).post.b ≡ Placeholder
+  pub least : (j : ℕ) → j < machine → wave_of waves j ≡ wave_of waves machine → (old j).post.b ≡ Placeholder
+
+-- where all are ready, all were placeholders at B; where a machine was refused, it was the first that wasn't, and its codes are those of its own post at B before
+abbrev pub AllTold : List Wave → (ℕ → PortState) → StartEnd → Type 0
+AllTold waves old Done = AllPlaceholders waves old
+AllTold waves old (EndFailed i) = Unit {0}
+AllTold waves old (EndRefused refused) = IsToldMachine old refused × IsFirstRefused waves old refused.machine
 
 -- where a start failed: each machine of an earlier wave is ready, each of the same was tried, and those of it with lesser numbers are ready
 pub record TriedAt (waves : List Wave) (wanted : ℕ → Placed) (old new : ℕ → PortState) (i : ℕ) : Type 0 where

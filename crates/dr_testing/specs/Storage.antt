@@ -30,8 +30,12 @@ pub record IsUnfitPair (run : ℕ) (old : Pair) (found : Half) : Type 0 where
   pub unfit : is_fit (TestStart run) old ≡ false
   pub shown : found ≡ record (half (target old) old) { content = found.content }
 
--- a refused pair wasn't as a test needs it, and is told with its own half
-abbrev pub StorageTold : ℕ → (ℕ → Pair) → Result (Unit {0}) ArrayFail → Type 0
-StorageTold run old (Ok _) = Unit {0}
-StorageTold run old (Err (Failed side)) = Unit {0}
-StorageTold run old (Err (Wrong k found)) = IsUnfitPair run (old k) found
+-- each pair of a list is as a test needs it: live and without snapshot
+abbrev pub AreFit : ℕ → List ℕ → (ℕ → Pair) → Type 0
+AreFit run list pair = (i : ℕ) → is_listed list i ≡ true → is_fit (TestStart run) (pair i) ≡ true
+
+-- where snapshots were taken, each pair was as a test needs it; a refused pair wasn't, and is told with its own half
+abbrev pub StorageTold : ℕ → List ℕ → (ℕ → Pair) → Result (Unit {0}) ArrayFail → Type 0
+StorageTold run list old (Ok _) = AreFit run list old
+StorageTold run list old (Err (Failed side)) = Unit {0}
+StorageTold run list old (Err (Wrong k found)) = IsUnfitPair run (old k) found

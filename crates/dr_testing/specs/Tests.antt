@@ -14,6 +14,7 @@ use Rattle.dr_inventory.specs.Sound.{IsSound}
 use Rattle.dr_plan.specs.declared.plan.Plan.{Plan}
 use Rattle.dr_plan.specs.Orders.{IsOrdered}
 use Rattle.dr_plan.specs.Waves.{waves_of}
+use Rattle.dr_outside.specs.declared.machine.Post.TheVariants.{Placeholder}
 use Rattle.dr_outside.specs.declared.pair.Half.{Half}
 use Rattle.dr_outside.specs.declared.pair.Pair.{Pair}
 use Rattle.dr_outside.specs.declared.array.ArrayCall.TheVariants.{TestStart}
@@ -26,8 +27,9 @@ use Rattle.dr_model.specs.StartUp.{InOrder}
 use Rattle.dr_model.specs.Testing.{DriftsButSnapshot, IsTestedPair, IsTestedMachine}
 use Rattle.dr_testing.specs.declared.start_up.StartEnd.{StartEnd}
 use Rattle.dr_testing.specs.declared.start_up.StartEnd.TheVariants.{Done as EndDone, Failed as EndFailed, Refused as EndRefused}
-use Rattle.dr_testing.specs.Placing.{wanted_place, wanted_at, is_planned, IsPlaced}
-use Rattle.dr_testing.specs.Starts.{ChangesAtB, StandsAsWanted, FailedAt, TriedAt, IsRefusal, ToldRefusal}
+use Rattle.dr_testing.specs.Storage.{AreFit}
+use Rattle.dr_testing.specs.Placing.{wanted_place, wanted_at, wave_of, is_planned, IsPlaced}
+use Rattle.dr_testing.specs.Starts.{ChangesAtB, StandsAsWanted, FailedAt, TriedAt, IsRefusal, ToldRefusal, IsFirstRefused}
 
 -- A plan of this estate that a test can run: its pairs and its machines are the estate's and ascend, dependencies come before their machines, and each machine has its place.
 pub record IsTestable (estate : Estate) (plan : Plan) : Type 0 where
@@ -87,6 +89,10 @@ pub record AreInOrder (estate : Estate) (plan : Plan) (machine : ℕ → PortSta
   pub stand : (i : ℕ) → is_planned plan i ≡ true → StandsAsWanted (wanted_at estate i) (machine i).post.b
   pub order : InOrder B (wanted_at estate) plan machine
 
+-- each machine of the plan is a placeholder at B
+abbrev pub ArePlaceholders : Plan → (ℕ → PortState) → Type 0
+ArePlaceholders plan machine = (i : ℕ) → is_planned plan i ≡ true → (machine i).post.b ≡ Placeholder
+
 -- the code of a pair's half before any run, where A is protected: writable at A alone
 abbrev pub opening_code : Side → ℕ
 opening_code side = bit 4 (same_side side A) + bit 8 (same_side side B)
@@ -108,11 +114,13 @@ pub record IsPortFault (tells : Type 0) (slots : ℕ) (estate : Estate) (plan : 
   pub failed : FailedAt (waves_of plan) old new machine
   pub tried : tells → AreOpeningMachines A slots old → TriedAt (waves_of plan) (wanted_at estate) old new machine
 
--- a machine of the plan that was refused: where it tells its state, with the codes of its own post at B before; from the opening state none is
-pub record IsForeignMachine (tells : Type 0) (slots : ℕ) (estate : Estate) (plan : Plan) (old : ℕ → PortState) (machine wanted found : ℕ) : Type 0 where
+-- A machine of the plan that was refused: no machine of a later wave was touched; where machines tell their state, it is the first that wasn't a placeholder, with the codes of its own post at B before; from the opening state none is.
+pub record IsForeignMachine (tells : Type 0) (slots : ℕ) (estate : Estate) (plan : Plan) (old new : ℕ → PortState) (machine wanted found : ℕ) : Type 0 where
   pub planned : is_planned plan machine ≡ true
   pub codes : IsRefusal (wanted_place estate machine) wanted found
+  pub untouched : (j : ℕ) → wave_of (waves_of plan) machine < wave_of (waves_of plan) j → new j ≡ old j
   pub told : tells → ToldRefusal (old machine).post.b wanted found
+  pub first : tells → IsFirstRefused (waves_of plan) old machine
   pub foreign : tells → AreOpeningMachines A slots old → ⊥
 
 -- a pair that wasn't as run 1 needs it, with the codes of its own target's half as it was before
@@ -135,13 +143,13 @@ answer_of (EndRefused refused) = Foreign (MachineThing refused.machine) refused.
 
 -- when a test that called the array gives each answer
 abbrev pub RunCause : (array_tells port_tells : Type 0) → Estate → Plan → Site → Site → Answer → Type 0
-RunCause array_tells port_tells estate plan old new (Done run) = run ≡ 1
+RunCause array_tells port_tells estate plan old new (Done run) = (run ≡ 1) × (port_tells → ArePlaceholders plan old.machine) × (array_tells → AreFit 1 plan.pairs old.array.pair)
 RunCause array_tells port_tells estate plan old new (ArrayFault side) = Rose (old.array.faults side) (new.array.faults side) × (new.machine ≡ old.machine)
 RunCause array_tells port_tells estate plan old new (PortFault machine) = IsPortFault port_tells old.slots estate plan old.machine new.machine machine
 RunCause array_tells port_tells estate plan old new (Foreign (PairThing pair) wanted found) =
     IsForeignPair array_tells plan old.array pair wanted found × (new.machine ≡ old.machine)
 RunCause array_tells port_tells estate plan old new (Foreign (MachineThing machine) wanted found) =
-    IsForeignMachine port_tells old.slots estate plan old.machine machine wanted found
+    IsForeignMachine port_tells old.slots estate plan old.machine new.machine machine wanted found
 RunCause array_tells port_tells estate plan old new _ = ⊥
 
 -- the site has a port for each machine of the estate, and each of its pairs

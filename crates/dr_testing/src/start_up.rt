@@ -7,7 +7,7 @@ ghost use Rattle.dr_outside.specs.Machines.{machine_at};
 ghost use Rattle.dr_model.specs.Codes.{post_code, told_by_refusal};
 ghost use Rattle.dr_model.specs.Testing.{in_bubble};
 ghost use Rattle.dr_testing.specs.Placing.{wanted_place, wanted_at, wave_of, IsPlaced, IsStartable, AreStartable};
-ghost use Rattle.dr_testing.specs.Starts.{NoneFalls, ChangesAtB, StartStep, StartCause, StartTold, WaveStep, EachPlaceholder, IsFailedMachine, IsRefusedMachine, IsToldMachine, is_before, failed_after, refused_after, AllCause, AllStep, AllTold, AllPlaceholders};
+ghost use Rattle.dr_testing.specs.Starts.{NoneFalls, ChangesAtB, StartStep, StartCause, StartTold, WaveStep, EachPlaceholder, WerePlaceholders, IsFailedMachine, IsRefusedMachine, IsToldMachine, is_before, failed_after, refused_after, AllCause, AllStep, AllTold, AllPlaceholders};
 
 use dr_base::{Placement, Side};
 use dr_inventory::Estate;
@@ -151,6 +151,8 @@ pub(crate) fn start_wave<P: Port>(ports: &mut [P], estate: &Estate, wave: &[u32]
         (IsFailedMachine wave.now (machine_at P.state ports.old) (machine_at P.state ports.new)) }
     ensures refused { IfSome result.refused (IsRefusedMachine wave.now (wanted_place estate.now)) }
     ensures told { P.tells → IfSome result.refused (IsToldMachine (machine_at P.state ports.old)) }
+    ensures passed { P.tells
+        → WerePlaceholders wave.now result.failed result.refused (machine_at P.state ports.old) }
     ensures step { P.tells → EachPlaceholder wave.now (machine_at P.state ports.old)
         → (i : ℕ) → WaveStep (is_listed wave.now i) (is_before result.failed i)
         (wanted_at estate.now i)
@@ -193,7 +195,7 @@ pub(crate) fn start_all<P: Port>(ports: &mut [P], estate: &Estate, waves: &[Wave
         → machine_at P.state ports.new i ≡ machine_at P.state ports.old i }
     ensures cause { AllCause waves.now (wanted_place estate.now) (machine_at P.state ports.old)
         (machine_at P.state ports.new) result }
-    ensures told { P.tells → AllTold (machine_at P.state ports.old) result }
+    ensures told { P.tells → AllTold waves.now (machine_at P.state ports.old) result }
     ensures step { P.tells → AllPlaceholders waves.now (machine_at P.state ports.old)
         → AllStep waves.now (wanted_at estate.now) (machine_at P.state ports.old)
         (machine_at P.state ports.new) result }

@@ -15,7 +15,7 @@ pub(crate) fn snapshot_pairs<A: Array>(
     requires { IsPairList (A.state array.old).count list.now }
     ensures listed { NamesListed list.now result }
     ensures cause { ArrayCause (A.state array.old) (A.state array.new) result }
-    ensures told { A.tells → StorageTold run (A.state array.old).pair result }
+    ensures told { A.tells → StorageTold run list.now (A.state array.old).pair result }
     ensures step { A.tells → AreOpeningPairs SideA (A.state array.old)
         → StorageStep run list.now (A.state array.old) (A.state array.new) result }
     ensures no_pairs { length list.now ≡ 0 → A.state array.new ≡ A.state array.old }

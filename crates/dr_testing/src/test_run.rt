@@ -101,7 +101,7 @@ fn run_test<A: Array, P: Port>(
 /// it has fewer pairs than the estate has devices. `NoMemory` comes before anything is called.
 /// `ArrayFault` and a foreign pair end the test before the machines. `PortFault` names the least
 /// machine of the first wave at which one failed, after each of that wave was tried; where none of it
-/// failed and one was refused, the least of these is foreign.
+/// failed and one was refused, the least of these is foreign. No machine of a later wave is touched.
 pub fn test_plan<A: Array, P: Port>(
     alloc: Global,
     array: &mut A,

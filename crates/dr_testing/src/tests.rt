@@ -26,6 +26,20 @@ fn a_test_leaves_snapshots_and_each_machine_ready_at_its_own_placement(
 }
 
 #[test]
+fn a_test_replicates_once_and_starts_each_machine_once(rt: HostRuntime) -> Result<(), Fail> {
+    // A third call of the array or of a machine would fail, and so would a call of the spare machine.
+    let plan = make_plan(&rt, rt.alloc(), &[0], 1, &[0], 4);
+    let setting = Setting {
+        array_fails: &[(3, Side::A), (3, Side::B)],
+        port_fails: &[(0, 3), (1, 3), (2, 3), (3, 1)],
+        ..SITE
+    };
+    let mut scene = make_scene(rt.alloc(), &setting)?;
+    assert_eq!(rt; run(&rt, rt.alloc(), &mut scene, &plan), Answer::Done(1));
+    Ok(())
+}
+
+#[test]
 fn no_later_wave_starts_after_a_failed_start(rt: HostRuntime) -> Result<(), Fail> {
     // The port and the call that fail, the machine that is told, and how the machines stand.
     let rows = [

@@ -15,7 +15,7 @@ returns-in-Ok-clause-cause g c =
     rw c.answer_of.ensures
     (machine_cause g.A.Array.tells g.P.Port.tells c.args.estate.now c.args.plan.now c.requires.testable (subst (AreWaves c.args.plan.now) c.requires.waves c.requires.in_order)
     (site g.A.Array.state g.P.Port.state c.args.array.now c.args.ports.now) (site g.A.Array.state g.P.Port.state c.snapshot_pairs.new.array c.start_all.new.ports) c.requires.slots.machines c.start_all.result
-    (rw c.requires.waves at e.cause) e.told (rw c.requires.waves at e.step))
+    (rw c.requires.waves at e.cause) (rw c.requires.waves at e.told) (rw c.requires.waves at e.step) (rw c.as_slice.ensures at c.in-Ok.ensures.told))
 
 pub returns-in-Ok-clause-machines_done : goal.returns-in-Ok-clause-machines_done
 returns-in-Ok-clause-machines_done g c = λ tells opening.
