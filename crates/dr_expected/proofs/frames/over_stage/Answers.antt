@@ -1,0 +1,9 @@
+use Rattle.std.proofs.Common.{arith}
+use Rattle.dr_replay.specs.Values.{run_of}
+use Rattle.dr_expected.specs.Expecting.{IsFrame, FrameOver}
+use Rattle.dr_expected.proofs.ShownLaws.{leads-more}
+use Rattle.dr_expected.proofs.frames.over_stage.Goals as goal
+
+pub loop-frame-preserved : goal.loop-frame-preserved
+loop-frame-preserved c =
+    leads-more IsFrame (FrameOver (run_of c.args.run.now) c.args.kind c.args.complete) c.args.frames.now _ _ c.loop-frame.frame-index _ (omega arith) c.loop-frame.invariant c.in_ok-add_over.ensures

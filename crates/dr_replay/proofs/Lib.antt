@@ -1,0 +1,12 @@
+pub mod AllTests
+pub mod EachTold
+pub mod FirstOf
+pub mod FollowLaws
+pub mod LastOf
+pub mod LawfulAt
+pub mod LawfulSteps
+pub mod LeftLaws
+pub mod PairLists
+pub mod PlanOrder
+pub mod StageAt
+pub mod Told

@@ -1,0 +1,11 @@
+use Rattle.std.proofs.Common.{sym, ◌∙◌, rules, tests}
+use Rattle.std.proofs.lemmas.Iterator.{YieldsList-from_slice}
+use Rattle.std.proofs.lemmas.Iterator.Search.{any_from_yields_List}
+use Rattle.dr_model.specs.Lawful.{is_code}
+use Rattle.dr_replay.proofs.Told.{any_told}
+use Rattle.dr_replay.proofs.runs.Run.is_coded.Goals as goal
+
+pub returns : goal.returns
+returns c =
+    any_from_yields_List (λ r. is_code c.args.token c.args.machine r.now) _ _ c.any.result c.any.ensures.ran (YieldsList-from_slice c.args.self.now.log.items cc) (λ x b q k. search (rules, tests))
+    ∙ sym (any_told (λ r. r.now) (is_code c.args.token c.args.machine) c.args.self.now.log.items)

@@ -1,0 +1,12 @@
+use Rattle.std.proofs.Common.{◌≡◌, false, not, rules, tests}
+use Rattle.std.proofs.lemmas.Iterator.{YieldsList-from_slice}
+use Rattle.std.proofs.lemmas.Iterator.Search.{all_from_yields_List}
+use Rattle.dr_model.specs.Meaning.{is_left}
+use Rattle.dr_replay.specs.Values.{run_of}
+use Rattle.dr_replay.proofs.AllTests.{all_tests}
+use Rattle.dr_replay.proofs.walk.Walk.none_left.Goals as goal
+
+pub returns : goal.returns
+returns c =
+    all_tests (λ d. is_left (run_of c.args.self.now.run.now) d ≡ false) (λ d. not (is_left (run_of c.args.self.now.run.now) d)) (λ d. search (rules, tests)) c.args.machines.now c.all.result
+    (all_from_yields_List (λ d. not (is_left (run_of c.args.self.now.run.now) d)) _ _ c.all.result c.all.ensures.ran (YieldsList-from_slice c.args.machines.now cc) (λ x b q k. search (rules, tests)))
