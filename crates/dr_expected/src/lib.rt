@@ -4,6 +4,8 @@
 
 mod frames;
 mod posts;
+#[cfg(test)]
+mod tests;
 
 pub use frames::{Frame, expects_frame};
 pub use posts::expects_post;

@@ -9,6 +9,8 @@ mod next;
 mod replaying;
 mod runs;
 mod starts;
+#[cfg(test)]
+mod tests;
 mod visiting;
 mod walk;
 

@@ -1,0 +1,77 @@
+//! Which record of a test may come: records of each kind that may, and like ones that may not.
+
+use super::setup::{ALL, Case, first_wrong, name, none, plan_with, site_of, start, unlawful, work};
+use dr_base::{Callout, Op};
+use dr_records::Record;
+use std::alloc::Global;
+use std::test::Fail;
+
+// A test of five stages, the third the command, the fourth that of the machine with commands.
+fn a_test_with_commands(alloc: Global) -> Result<Vec<Record>, Fail> {
+    let mut records = Vec::new(alloc);
+    start(alloc, &mut records, 1, Op::Testing, 0)?;
+    work(&mut records, 1, 1, 3)?;
+    records.push(Record::Begin(1, 3))?;
+    records.push(Record::Code(1, 4294967297, ALL, 3))?;
+    records.push(Record::Done(1, 3))?;
+    records.push(Record::Begin(1, 4))?;
+    records.push(Record::Code(1, 4294967296, 0, 0))?;
+    records.push(Record::Code(1, 4294967298, 0, 0))?;
+    records.push(Record::Done(1, 4))?;
+    work(&mut records, 1, 5, 6)?;
+    records.push(Record::Finish(1, 1000, none(alloc)))?;
+    Ok(records)
+}
+
+// The cases of the command's stage.
+fn command_cases() -> [Case; 9] {
+    [
+        (5, Record::Code(1, 4294967297, ALL, 3), false),
+        (6, Record::Code(1, 4294967297, ALL, 3), true),
+        (6, Record::Code(1, 4294967297, 0, 3), false),
+        (6, Record::Code(1, 4294967296, ALL, 3), false),
+        (6, Record::Code(1, 4294967298, ALL, 3), false),
+        (6, Record::Code(1, 8589934593, ALL, 3), false),
+        (7, Record::Code(1, 4294967297, ALL, 3), false),
+        (6, Record::Done(1, 3), false),
+        (7, Record::Done(1, 3), true),
+    ]
+}
+
+// The cases of the stage of the machine with commands.
+fn machine_cases() -> [Case; 10] {
+    [
+        (8, Record::Code(1, 4294967296, 0, 0), false),
+        (9, Record::Code(1, 4294967296, 0, 0), true),
+        (9, Record::Code(1, 4294967297, 0, 0), false),
+        (9, Record::Code(1, 4294967299, 0, 0), false),
+        (9, Record::Code(1, 4294967296, 1, 0), false),
+        (9, Record::Code(1, 4294967296, ALL, 0), false),
+        (10, Record::Code(1, 4294967296, 0, 0), false),
+        (9, Record::Done(1, 4), false),
+        (10, Record::Done(1, 4), false),
+        (11, Record::Done(1, 4), true),
+    ]
+}
+
+#[test]
+fn a_commands_code_comes_once_before_its_stage_is_done(rt: HostRuntime) -> Result<(), Fail> {
+    let alloc = rt.alloc();
+    let command = name(b"exit-3")?;
+    let commands = [Some(command), None, Some(command), None];
+    let plan = plan_with(alloc, Callout::Command(command), commands)?;
+    let site = site_of(alloc, plan)?;
+    let records = a_test_with_commands(alloc)?;
+    assert_eq!(rt; unlawful(alloc, &site, &records)?, None);
+    assert_eq!(rt;
+        first_wrong(alloc, &site, &records, command_cases().as_slice())?,
+        None
+    );
+    assert_eq!(rt;
+        first_wrong(alloc, &site, &records, machine_cases().as_slice())?,
+        None
+    );
+    Ok(())
+}
+
+// Runs of a plan of no group don't exclude each other, so that two can wait.
