@@ -1,7 +1,9 @@
 //! Which record of a test may come: records of each kind that may, and like ones that may not.
 
-use super::setup::{ALL, Case, first_wrong, name, none, plan_with, site_of, start, unlawful, work};
-use dr_base::{Callout, Op};
+use super::setup::{
+    ALL, Case, NO_COMMANDS, first_wrong, name, none, plan_with, site_of, start, unlawful, work,
+};
+use dr_base::{Callout, Name, Op, Text};
 use dr_records::Record;
 use std::alloc::Global;
 use std::test::Fail;
@@ -69,6 +71,53 @@ fn a_commands_code_comes_once_before_its_stage_is_done(rt: HostRuntime) -> Resul
     );
     assert_eq!(rt;
         first_wrong(alloc, &site, &records, machine_cases().as_slice())?,
+        None
+    );
+    Ok(())
+}
+
+// A test that waits at its third stage, a prompt, and then goes on.
+fn a_test_with_a_prompt(alloc: Global) -> Result<Vec<Record>, Fail> {
+    let mut records = Vec::new(alloc);
+    start(alloc, &mut records, 1, Op::Testing, 0)?;
+    work(&mut records, 1, 1, 3)?;
+    records.push(Record::Answer(1, 1, name(b"ok")?))?;
+    records.push(Record::Attempt(1, 1000))?;
+    work(&mut records, 1, 3, 6)?;
+    records.push(Record::Finish(1, 1000, none(alloc)))?;
+    Ok(records)
+}
+
+// Answers and Begins of the prompt.
+fn prompt_cases(ok: Name) -> [Case; 12] {
+    [
+        (3, Record::Answer(1, 1, ok), false),
+        (4, Record::Answer(1, 1, ok), false),
+        (5, Record::Answer(1, 1, ok), true),
+        (5, Record::Answer(1, 0, ok), false),
+        (5, Record::Answer(1, 2, ok), false),
+        (5, Record::Answer(2, 1, ok), false),
+        (6, Record::Answer(1, 1, ok), false),
+        (8, Record::Answer(1, 1, ok), false),
+        (9, Record::Answer(1, 1, ok), false),
+        (5, Record::Begin(1, 3), false),
+        (6, Record::Begin(1, 3), true),
+        (5, Record::Begin(1, 4), false),
+    ]
+}
+
+#[test]
+fn a_prompt_is_answered_once_and_then_begun(rt: HostRuntime) -> Result<(), Fail> {
+    let alloc = rt.alloc();
+    let text = Text::read(b"go").ok_or("a text")?;
+    let site = site_of(alloc, plan_with(alloc, Callout::Prompt(text), NO_COMMANDS)?)?;
+    let records = a_test_with_a_prompt(alloc)?;
+    let ok = name(b"ok")?;
+    let cases = prompt_cases(ok);
+    assert_eq!(rt; records.len(), 14);
+    assert_eq!(rt; unlawful(alloc, &site, &records)?, None);
+    assert_eq!(rt;
+        first_wrong(alloc, &site, &records, cases.as_slice())?,
         None
     );
     Ok(())
