@@ -1,6 +1,6 @@
 -- The last element of a list that the program keeps oldest first.
 use Rattle.std.specs.Prelude.{◌≡◌, ℕ, suc, ◌<◌, ◌≤◌, List, [], ◌∷◌, ◌++◌, map, reverse, length}
-use Rattle.std.proofs.Common.{refl, sym, ◌∙◌, ap, get_or, set, take, arith}
+use Rattle.std.proofs.Common.{sym, ◌∙◌, ap, get_or, set, take, arith}
 use Rattle.std.proofs.lemmas.List.{take_all, length-set}
 use Rattle.std.proofs.Math.Seq.{take-suc, take-suc-set}
 use Rattle.dr_replay.proofs.Told.{told_push}

@@ -1,5 +1,5 @@
 -- The program's values as the definitions of runs have them.
-use Rattle.std.specs.Prelude.{ℕ, List, map, reverse, Option, option_map}
+use Rattle.std.specs.Prelude.{List, map, reverse, option_map}
 use Rattle.std.specs.Borrow.{Bor}
 use Rattle.dr_model.specs.Types.{Record, Estate, Plan}
 use Rattle.dr_model.specs.Visits.{Visit}

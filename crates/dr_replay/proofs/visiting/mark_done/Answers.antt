@@ -1,4 +1,4 @@
-use Rattle.std.proofs.Common.{◌≡◌, ℕ, suc, ◌-◌, ◌<◌, length, refl, sym, ◌∙◌, ap, arith}
+use Rattle.std.proofs.Common.{◌≡◌, suc, ◌-◌, ◌<◌, length, refl, sym, ◌∙◌, ap, arith}
 use Rattle.dr_model.specs.Visits.{mark_done}
 use Rattle.dr_replay.specs.Values.{visit_of}
 use Rattle.dr_replay.proofs.LastOf.{told_last, told_changed}

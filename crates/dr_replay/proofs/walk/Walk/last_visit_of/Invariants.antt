@@ -1,4 +1,4 @@
-use Rattle.std.proofs.Common.{◌≡◌, ◌==◌, take, find}
+use Rattle.std.proofs.Common.{◌≡◌, take, find}
 use Rattle.std.specs.Prelude.{option_map}
 use Rattle.dr_model.specs.Runs.{stages_of}
 use Rattle.dr_model.specs.Stages.{stage_at}
