@@ -17,8 +17,8 @@ pub enum Thing {
     Machine(u32),
 }
 
-/// The answer to one line. Numbers of pairs and machines are the estate's, from 0; those of runs,
-/// steps and lines count from 1.
+/// The answer to one line. Numbers of pairs and machines are the estate's, from 0; those of runs
+/// and steps count from 1.
 #[derive(Debug, Drop, PartialEq, Eq)]
 pub enum Answer {
     /// The run is finished.
@@ -29,7 +29,7 @@ pub enum Answer {
     Replied,
     /// The report was given.
     Shown,
-    /// The word at this place, from 0, begins no command; or one is missing there.
+    /// The word at this place, from 0, may not stand there; or one is missing there.
     BadWords(u32),
     /// The estate is faulty.
     Estate(EstateFault),

@@ -10,8 +10,11 @@ pub enum SlotKind {
 /// Why an estate can't take the place of the one in force.
 #[derive(Clone, Copy, Debug, PartialEq, Eq)]
 pub enum AmendKind {
+    /// What the old estate declares isn't at the same place in the new one.
     Order,
+    /// A machine, device or group belongs elsewhere, or is protected elsewhere.
     Moved,
+    /// A group that changes isn't ready, or an open run holds it.
     Busy,
 }
 

@@ -20,11 +20,9 @@ use dr_base::{NoMemory, Op, Side};
 use dr_inventory::Estate;
 use dr_model::StageKind;
 use dr_outside::{Link, Pair, Sides};
+use dr_records::ALL;
 use dr_replay::{Run, Visit, Walk, group_state, has};
 use std::alloc::Global;
-
-// The number that stands for all pairs in a Skip.
-const ALL: u32 = 4294967295;
 
 /// A pair without what production and replication write; of its snapshot, the run.
 #[derive(Clone, Copy, Debug, PartialEq, Eq)]

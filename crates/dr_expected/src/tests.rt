@@ -7,9 +7,9 @@ use crate::{Frame, expects_frame, expects_post};
 use dr_base::{Name, NoMemory, Op, Placement, Rows, Side};
 use dr_inventory::{Estate, read_estate};
 use dr_mappings::place;
-use dr_outside::{Link, Placed, Post, Sides};
+use dr_outside::{Content, Link, Pair, Placed, Post, Sides};
 use dr_plan::{Plan, PlanMachine};
-use dr_records::{Record, StartRow};
+use dr_records::{ALL, Record, StartRow};
 use dr_replay::Run;
 use std::alloc::{AllocError, Global};
 use std::test::Fail;
@@ -38,7 +38,7 @@ protects = "A"
 datastores = ["ds1"]
 "#;
 
-// What a test of the machine starts from.
+// What a run of the machine starts from.
 #[derive(Drop)]
 struct Setup {
     estate: Estate,
@@ -56,10 +56,10 @@ fn only(alloc: Global, number: u32) -> Result<Rows<u32>, AllocError> {
     Ok(Rows::new(list))
 }
 
-fn start(alloc: Global, name: Name) -> Result<StartRow, AllocError> {
+fn start(alloc: Global, name: Name, op: Op) -> Result<StartRow, AllocError> {
     Ok(StartRow {
         run: 1,
-        op: Op::Testing,
+        op,
         forced: false,
         plan: 0,
         over: 0,
@@ -98,11 +98,12 @@ fn estate(alloc: Global) -> Result<Estate, NoMemory>
     }
 }
 
-fn given(alloc: Global, name: Name) -> Result<Setup, Fail>
+fn given(alloc: Global, op: Op) -> Result<Setup, Fail>
     ensures { IfOk result (λ setup. IsSound setup.estate) }
 {
+    let name = Name::read(b"p1").ok_or("p1 is a name")?;
     let plan = plan(alloc, name)?;
-    let start = start(alloc, name)?;
+    let start = start(alloc, name, op)?;
     let estate = estate(alloc)?;
     Ok(Setup {
         estate,
@@ -185,12 +186,44 @@ fn is_post(
     expects_post(alloc, &setup.estate, 0, 0, side, &[run], post)
 }
 
+// A pair before any run, with 5 writes that aren't replicated yet.
+fn opening_pair() -> Pair {
+    let behind = Content {
+        line: 0,
+        base: 0,
+        writes: 95,
+    };
+    let ahead = Content {
+        writes: 100,
+        ..behind
+    };
+    Pair {
+        source: Side::A,
+        link: Link::Live,
+        writable: Sides::only(Side::A),
+        content: Sides {
+            a: ahead,
+            b: behind,
+        },
+        snapshot: None,
+    }
+}
+
+// Whether the frame of such a pair, the opening frame, and the same with a snapshot, are expected
+// before any run.
+fn opening_frames(alloc: Global) -> Result<[bool; 3], Fail> {
+    let setup = given(alloc, Op::Testing)?;
+    let found = Frame::of(&opening_pair());
+    Ok([
+        expects_frame(alloc, &setup.estate, 0, &[], &found)?,
+        expects_frame(alloc, &setup.estate, 0, &[], &frame(None))?,
+        expects_frame(alloc, &setup.estate, 0, &[], &frame(Some(1)))?,
+    ])
+}
+
 #[test]
 fn before_any_run_the_opening_frame_alone_is_expected(rt: HostRuntime) -> Result<(), Fail> {
-    let alloc = rt.alloc();
-    let setup = given(alloc, Name::read(b"p1").ok_or("p1 is a name")?)?;
-    assert!(rt; expects_frame(alloc, &setup.estate, 0, &[], &frame(None))?);
-    assert!(rt; !expects_frame(alloc, &setup.estate, 0, &[], &frame(Some(1)))?);
+    assert_eq!(rt; opening_frames(rt.alloc())?, [true, true, false]);
     Ok(())
 }
 
@@ -209,21 +242,38 @@ fn snapshots(
     ))
 }
 
+// The same before the stage that makes snapshots, while it is begun, after it, and after the run.
+fn snapshots_on_the_way(
+    alloc: Global,
+    setup: &Setup,
+    records: &[Record],
+) -> Result<[(bool, bool, bool); 4], NoMemory> {
+    Ok([
+        snapshots(alloc, setup, records, 2)?,
+        snapshots(alloc, setup, records, 3)?,
+        snapshots(alloc, setup, records, 4)?,
+        snapshots(alloc, setup, records, 7)?,
+    ])
+}
+
+fn snapshots_of_a_test(alloc: Global) -> Result<[(bool, bool, bool); 4], Fail> {
+    let setup = given(alloc, Op::Testing)?;
+    let records = a_test(alloc)?;
+    let found = snapshots_on_the_way(alloc, &setup, &records)?;
+    Ok(found)
+}
+
 #[test]
 fn a_begun_stage_may_have_made_its_snapshots_and_a_done_one_has(
     rt: HostRuntime,
 ) -> Result<(), Fail> {
-    let alloc = rt.alloc();
-    let setup = given(alloc, Name::read(b"p1").ok_or("p1 is a name")?)?;
-    let records = a_test(alloc)?;
-    let before = snapshots(alloc, &setup, &records, 2)?;
-    assert_eq!(rt; before, (true, false, false));
-    let begun = snapshots(alloc, &setup, &records, 3)?;
-    assert_eq!(rt; begun, (true, true, false));
-    let done = snapshots(alloc, &setup, &records, 4)?;
-    assert_eq!(rt; done, (false, true, false));
-    let finished = snapshots(alloc, &setup, &records, 7)?;
-    assert_eq!(rt; finished, (false, true, false));
+    let before = (true, false, false);
+    let begun = (true, true, false);
+    let done = (false, true, false);
+    assert_eq!(rt;
+        snapshots_of_a_test(rt.alloc())?,
+        [before, begun, done, done]
+    );
     Ok(())
 }
 
@@ -250,34 +300,54 @@ fn told(
     ))
 }
 
-// Where the maps place the machine at B, in a bubble.
-fn place_at_b(estate: &Estate) -> Option<Placement>
+// Where the maps place the machine at B, in a bubble or not.
+fn place_at_b(estate: &Estate, bubble: bool) -> Option<Placement>
     requires { IsSound estate.now }
 {
     if estate.machines.as_slice().is_empty() {
         return None;
     }
-    match place(estate, 0, Side::A, Side::B, true) {
+    match place(estate, 0, Side::A, Side::B, bubble) {
         Ok(place) => Some(place),
         Err(_) => None,
     }
 }
 
+// The same of a Placeholder, and of the machine off, on and ready where the maps place it.
+fn posts_on_the_way(
+    alloc: Global,
+    setup: &Setup,
+    records: &[Record],
+    wanted: &Placed,
+) -> Result<[(bool, bool, bool); 4], NoMemory>
+    requires { IsSound setup.now.estate }
+{
+    Ok([
+        told(alloc, setup, records, &Post::Placeholder)?,
+        told(alloc, setup, records, &Post::Off(*wanted))?,
+        told(alloc, setup, records, &Post::On(*wanted))?,
+        told(alloc, setup, records, &Post::Ready(*wanted))?,
+    ])
+}
+
+fn posts_of_a_test(alloc: Global) -> Result<[(bool, bool, bool); 4], Fail> {
+    let setup = given(alloc, Op::Testing)?;
+    let records = a_test(alloc)?;
+    let place = place_at_b(&setup.estate, true).ok_or("the maps give its place")?;
+    let wanted = somewhere(place.network, &place, true);
+    let found = posts_on_the_way(alloc, &setup, &records, &wanted)?;
+    Ok(found)
+}
+
 #[test]
 fn a_begun_start_may_have_left_any_post_as_wanted(rt: HostRuntime) -> Result<(), Fail> {
-    let alloc = rt.alloc();
-    let setup = given(alloc, Name::read(b"p1").ok_or("p1 is a name")?)?;
-    let records = a_test(alloc)?;
-    let place = place_at_b(&setup.estate).ok_or("the maps give its place")?;
-    let wanted = somewhere(place.network, &place, true);
-    let placeholder = told(alloc, &setup, &records, &Post::Placeholder)?;
-    assert_eq!(rt; placeholder, (true, true, false));
-    let off = told(alloc, &setup, &records, &Post::Off(wanted))?;
-    assert_eq!(rt; off, (false, true, false));
-    let on = told(alloc, &setup, &records, &Post::On(wanted))?;
-    assert_eq!(rt; on, (false, true, false));
-    let ready = told(alloc, &setup, &records, &Post::Ready(wanted))?;
-    assert_eq!(rt; ready, (false, true, true));
+    let placeholder = (true, true, false);
+    let off_or_on = (false, true, false);
+    let ready = (false, true, true);
+    assert_eq!(rt;
+        posts_of_a_test(rt.alloc())?,
+        [placeholder, off_or_on, off_or_on, ready]
+    );
     Ok(())
 }
 
@@ -296,17 +366,134 @@ fn at_both(
     ))
 }
 
+fn posts_elsewhere(alloc: Global) -> Result<[(bool, bool); 2], Fail> {
+    let setup = given(alloc, Op::Testing)?;
+    let records = a_test(alloc)?;
+    let place = place_at_b(&setup.estate, true).ok_or("the maps give its place")?;
+    let other = Name::read(b"other").ok_or("other is a name")?;
+    let serving = &somewhere(other, &place, false);
+    let ready = at_both(alloc, &setup, &records, &Post::Ready(*serving))?;
+    let off = at_both(alloc, &setup, &records, &Post::Off(*serving))?;
+    Ok([ready, off])
+}
+
 #[test]
 fn where_a_machine_serves_it_is_ready_in_any_placement(rt: HostRuntime) -> Result<(), Fail> {
-    let alloc = rt.alloc();
-    let setup = given(alloc, Name::read(b"p1").ok_or("p1 is a name")?)?;
-    let records = a_test(alloc)?;
-    let place = place_at_b(&setup.estate).ok_or("the maps give its place")?;
-    let other = Name::read(b"other").ok_or("other is a name")?;
-    let serving = somewhere(other, &place, false);
-    let ready = at_both(alloc, &setup, &records, &Post::Ready(serving))?;
-    assert_eq!(rt; ready, (true, false));
-    let off = at_both(alloc, &setup, &records, &Post::Off(serving))?;
-    assert_eq!(rt; off, (false, false));
+    assert_eq!(rt;
+        posts_elsewhere(rt.alloc())?,
+        [(true, false), (false, false)]
+    );
+    Ok(())
+}
+
+// A failover that skips all that it may at the old side, and leaves the machine.
+fn a_failover(alloc: Global) -> Result<Vec<Record>, AllocError> {
+    let mut list = Vec::new(alloc);
+    for (stage, excused) in [
+        (1, Some(Record::Skip(1, 1, ALL))),
+        (2, Some(Record::Skip(1, 2, 0))),
+        (3, Some(Record::Skip(1, 3, ALL))),
+        (4, Some(Record::Skip(1, 4, ALL))),
+        (5, None),
+        (6, Some(Record::Aside(1, 0, 0))),
+    ] {
+        list.push(Record::Begin(1, stage))?;
+        if let Some(item) = excused {
+            list.push(item)?;
+        }
+        list.push(Record::Done(1, stage))?;
+    }
+    list.push(Record::Finish(1, 0, only(alloc, 0)?))?;
+    Ok(list)
+}
+
+// A split pair of source A.
+fn split(writable: Sides<bool>) -> Frame {
+    Frame {
+        source: Side::A,
+        link: Link::Split,
+        writable,
+        snapshot: None,
+    }
+}
+
+// Whether a split pair is expected after the first records: writable at B alone, at both sides, and
+// at A alone.
+fn splits(
+    alloc: Global,
+    setup: &Setup,
+    records: &[Record],
+    count: usize,
+) -> Result<(bool, bool, bool), NoMemory> {
+    let run = run_after(alloc, setup, records, count)?;
+    let runs = [run];
+    let estate = &setup.estate;
+    let both = Sides { a: true, b: true };
+    Ok((
+        expects_frame(alloc, estate, 0, &runs, &split(Sides::only(Side::B)))?,
+        expects_frame(alloc, estate, 0, &runs, &split(both))?,
+        expects_frame(alloc, estate, 0, &runs, &split(Sides::only(Side::A)))?,
+    ))
+}
+
+// The same before the split, while it is begun, after it, and after the run.
+fn splits_on_the_way(alloc: Global) -> Result<[(bool, bool, bool); 4], Fail> {
+    let setup = given(alloc, Op::Failover)?;
+    let records = a_failover(alloc)?;
+    Ok([
+        splits(alloc, &setup, &records, 12)?,
+        splits(alloc, &setup, &records, 13)?,
+        splits(alloc, &setup, &records, 14)?,
+        splits(alloc, &setup, &records, 18)?,
+    ])
+}
+
+#[test]
+fn where_the_freezing_was_skipped_the_old_side_may_be_writable(
+    rt: HostRuntime,
+) -> Result<(), Fail> {
+    let before = (false, false, false);
+    let split = (true, true, false);
+    assert_eq!(rt;
+        splits_on_the_way(rt.alloc())?,
+        [before, split, split, split]
+    );
+    Ok(())
+}
+
+// Whether the machine's posts are expected at B after the failover: a placeholder, off, on and ready
+// as wanted; and at A ready and off.
+fn posts_after_a_failover(
+    alloc: Global,
+    setup: &Setup,
+    records: &[Record],
+    wanted: &Placed,
+) -> Result<[bool; 6], NoMemory>
+    requires { IsSound setup.now.estate }
+{
+    Ok([
+        is_post(alloc, setup, records, 18, Side::B, &Post::Placeholder)?,
+        is_post(alloc, setup, records, 18, Side::B, &Post::Off(*wanted))?,
+        is_post(alloc, setup, records, 18, Side::B, &Post::On(*wanted))?,
+        is_post(alloc, setup, records, 18, Side::B, &Post::Ready(*wanted))?,
+        is_post(alloc, setup, records, 18, Side::A, &Post::Ready(*wanted))?,
+        is_post(alloc, setup, records, 18, Side::A, &Post::Off(*wanted))?,
+    ])
+}
+
+fn posts_of_a_left_machine(alloc: Global) -> Result<[bool; 6], Fail> {
+    let setup = given(alloc, Op::Failover)?;
+    let records = a_failover(alloc)?;
+    let place = place_at_b(&setup.estate, false).ok_or("the maps give its place")?;
+    let wanted = somewhere(place.network, &place, false);
+    let found = posts_after_a_failover(alloc, &setup, &records, &wanted)?;
+    Ok(found)
+}
+
+#[test]
+fn a_left_machine_stands_in_any_way_and_a_skipped_stop_leaves_it_ready(
+    rt: HostRuntime,
+) -> Result<(), Fail> {
+    assert_eq!(rt; posts_of_a_left_machine(rt.alloc())?, [true; 6]);
     Ok(())
 }

@@ -9,7 +9,7 @@ use Rattle.dr_base.specs.declared.group_fault.GroupFault.{GroupFault}
 use Rattle.dr_base.specs.declared.group_fault.GroupFault.TheVariants.{NotClosed, InTwo, NoMemory}
 use Rattle.dr_inventory.specs.declared.estate.Estate.{Estate}
 use Rattle.dr_inventory.specs.Sound.{AllBelow, IsSound}
-use Rattle.dr_groups.specs.declared.lists.Members.{Members}
+use Rattle.dr_inventory.specs.declared.members.Members.{Members}
 use Rattle.dr_groups.specs.Marks.{ListsAscending}
 use Rattle.dr_groups.specs.Groups.{IsInGroup, IsFirstFault, ListsByGroup, AreMembersOf}
 use Rattle.dr_groups.proofs.RowLaws.{found_contained, class_within}

@@ -5,7 +5,7 @@ use Rattle.dr_base.specs.declared.group_fault.GroupFault.TheVariants.{NotClosed,
 use Rattle.dr_inventory.specs.declared.estate.Machine.{Machine}
 use Rattle.dr_inventory.specs.declared.estate.GroupRow.{GroupRow}
 use Rattle.dr_inventory.specs.declared.estate.Estate.{Estate}
-use Rattle.dr_groups.specs.declared.lists.Members.{Members}
+use Rattle.dr_inventory.specs.declared.members.Members.{Members}
 use Rattle.dr_groups.specs.Links.{HasDevice, SameClass}
 use Rattle.dr_groups.specs.Marks.{ListsAscending}
 

@@ -9,12 +9,11 @@ ghost use Rattle.dr_groups.specs.Searches.{IsDeviceAmong, IsMachineWithin};
 
 use crate::labels::labels_of;
 use crate::leaders::devices_of;
-use crate::lists::Members;
 use crate::marks::{all_marked, mark_all, marked_numbers, no_marks};
 use crate::shared::first_shared;
 use crate::splits::{datastores_of, first_split, marks_of};
 use dr_base::{GroupFault, Rows};
-use dr_inventory::Estate;
+use dr_inventory::{Estate, Members};
 use std::alloc::{AllocError, Global};
 
 // Marks the devices of these datastores.

@@ -6,13 +6,13 @@ mod holdings;
 mod labels;
 pub mod laws;
 mod leaders;
-mod lists;
 pub mod marks;
 mod shared;
 mod splits;
 #[cfg(test)]
 mod tests;
 
+pub use dr_base::GroupFault;
+pub use dr_inventory::Members;
 pub use holdings::members;
 pub use labels::datastore_groups;
-pub use lists::Members;

@@ -8,6 +8,7 @@ mod limits;
 mod lists;
 mod map_key;
 mod maps;
+mod members;
 mod numbers;
 mod places;
 mod plans;
@@ -24,4 +25,5 @@ mod walk;
 
 pub use dr_base::{Callout, EstateFault, Kind, Limit};
 pub use estate::{Datastore, Estate, GroupRow, Machine, MapRow, PlanMachineRow, PlanRow, StepRow};
+pub use members::Members;
 pub use reading::read_estate;

@@ -9,6 +9,7 @@ pub struct HostClock<T> {
 }
 
 impl<T: rt::Clock> HostClock<T> {
+    /// The clock of this runtime.
     pub fn new(rt: T) -> HostClock<T> {
         HostClock { clock: rt }
     }

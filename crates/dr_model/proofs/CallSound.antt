@@ -143,7 +143,7 @@ module _ (setting : Setting) (records : List Record) (lawful : LawfulAfter setti
   kept_on _ h = tt
 
   -- machines of the last runs stay in order
-  keeps_order : (g : ℕ) (run : Run) → last_of_group g runs ≡ Some run → Each (λ h. last_of_group h runs ≡ Some run) run.start.groups → is_start_up (op run) ≡ true → KeepsOrder old now runs run
+  keeps_order : (g : ℕ) (run : Run) → last_of_group g runs ≡ Some run → Each (λ h. last_of_group h runs ≡ Some run) run.start.groups → is_start_up (op run) ≡ true → KeepsOrder old now run
   keeps_order g run last all_last up = record {
     ready = λ m named h. ap (λ f. is_ready_of (f m)) same_posts ∙ h;
     kept = λ m t h. ap (λ f. keeps (f m) t) same_kept ∙ h;

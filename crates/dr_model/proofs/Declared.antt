@@ -2,9 +2,9 @@
 use Rattle.std.specs.Prelude.{◌≡◌, ℕ, ◌<◌, ◌≤◌, nat_eq, true, List, [], ◌∷◌, length, Contains, Some, slice_get, slice_index_or}
 use Rattle.std.specs.List.{list_any, range_with_len}
 use Rattle.std.proofs.Common.{refl, sym, ap, subst, arith}
-use Rattle.std.proofs.lemmas.Bool.{eq-eqb}
-use Rattle.std.proofs.lemmas.List.Elements.{All-contains}
-use Rattle.std.proofs.lemmas.List.Folds.{list_any_at}
+use Rattle.std.proofs.lemmas.Bool.{eq-eqb, eqb-true}
+use Rattle.std.proofs.lemmas.List.Elements.{All-contains, filter_passes}
+use Rattle.std.proofs.lemmas.List.Folds.{Any-from_list_any, list_any_at}
 use Rattle.std.proofs.lemmas.Option.{slice_get_within, slice_get-get_or}
 use Rattle.dr_inventory.specs.Sound.{IsSound}
 use Rattle.dr_inventory.proofs.SoundLaws.{sound}
@@ -17,7 +17,7 @@ use Rattle.dr_plan.specs.Plans.{IsPlanOf, plan_machine}
 use Rattle.dr_plan.specs.Orders.{IsOrdered}
 use Rattle.dr_plan.proofs.OrderLaws.{mapped_to, in_range}
 use Rattle.dr_setting.specs.declared.setting.Setting.{Setting as Whole}
-use Rattle.dr_setting.proofs.PlanFacts.{IsHeldAmong, plan_groups, plan_machine_group}
+use Rattle.dr_setting.proofs.PlanFacts.{IsHeldAmong, plan_pairs, plan_groups, plan_machine_group}
 use Rattle.dr_inventory.specs.declared.estate.Machine.{Machine}
 use Rattle.dr_model.specs.Types.{PlanMachine, Plan, Estate}
 use Rattle.dr_model.specs.Runs.{Setting}
@@ -31,6 +31,16 @@ held_by_one lists groups g k (i, below, is) (j, within, e) =
     let Holds : ℕ → Type 0 = λ h. list_any (λ (x : ℕ). nat_eq x k) (slice_index_or lists h []) ≡ true in
     let own : Holds g = list_any_at (λ (x : ℕ). nat_eq x k) (slice_index_or lists g []) j k within (eq-eqb _ k e) in
     list_any_at (λ (h : ℕ). list_any (λ (x : ℕ). nat_eq x k) (slice_index_or lists h [])) groups i g below (subst Holds (sym is) own)
+
+-- and a number that they hold is in the list of one of them
+one_that_holds : (lists : List (List ℕ)) (groups : List ℕ) (k : ℕ) → is_held lists groups k ≡ true → (g : ℕ) × Contains groups g × Contains (slice_index_or lists g []) k
+one_that_holds lists groups k h =
+    let any = Any-from_list_any (λ (g : ℕ). list_any (λ (held : ℕ). nat_eq held k) (slice_index_or lists g [])) groups h in
+    let list : List ℕ = slice_index_or lists any.1 [] in
+    let one = Any-from_list_any (λ (held : ℕ). nat_eq held k) list any.4 in
+    let same : one.1 ≡ k = eqb-true one.1 k one.4 in
+    let In : ℕ → Type 0 = λ n. Contains list n in
+    (any.1, (any.0, any.2, any.3), subst In same (one.0, one.2, one.3))
 
 -- what belongs to one of these groups is among all that they hold
 held_among_all : (estate : Estate) (Belongs : ℕ → ℕ → Type 0) (lists : List (List ℕ)) → ListsByGroup estate Belongs lists → (groups : List ℕ) (count g k : ℕ) → g < length estate.groups → Contains groups g → Belongs g k → k < count → Contains (all_held lists groups count) k
@@ -74,12 +84,25 @@ module _ (bytes : List ℕ) (setting : Setting) (d : Declares bytes setting) (nu
       let P : Plan → Type 0 = λ q. Contains q.pairs p in
       subst P (sym is_plan.value) planned
 
+  pair_of_group : (p : ℕ) → Contains plan.pairs p → (g : ℕ) × Contains plan.groups g × IsPairOf setting.estate g p
+  pair_of_group p listed =
+      let P : Plan → Type 0 = λ q. Contains q.pairs p in
+      let Held : ℕ → Type 0 = λ k. is_held d.members.pairs numbers k ≡ true in
+      let held : Held p = All-contains Held (planned_pairs setting.estate d.members is_plan.row) p (filter_passes (is_held d.members.pairs numbers) (range_with_len 0 (length setting.estate.devices))) (subst P is_plan.value listed) in
+      let (g, numbered, in_list) = one_that_holds d.members.pairs numbers p held in
+      let G : List ℕ → Type 0 = λ gs. Contains gs g in
+      let named : Contains plan.groups g = subst G (ap (λ (q : Plan). q.groups) (sym is_plan.value)) numbered in
+      let at : slice_get d.members.pairs g ≡ Some (slice_index_or d.members.pairs g []) = slice_get-get_or d.members.pairs g [] (omega (arith, group_below g named, d.is_setting.members.pairs.one_each)) in
+      (g, named, ((d.is_setting.members.pairs.each g (slice_index_or d.members.pairs g []) at).exactly p).0 in_list)
+
   regular : IsRegularPlan setting.estate plan
   regular = record {
     ordered = All-contains IsOrdered setting.plans plan d.is_setting.ordered (found_contained setting.plans number plan at_plan);
     machines = machine_of_group;
     all_machines = all_machines;
+    pairs = pair_of_group;
     all_pairs = all_pairs;
+    pairs_ascend = (plan_pairs setting.estate whole number plan d.is_setting at_plan).0;
   }
 
 -- the plans of what an Estate declares

@@ -1,4 +1,4 @@
--- What a run means, it may have made: with FinishLaws the two are equal, but for left machines.
+-- What a run means, it may have made: with FinishLaws the two are equal, but for left machines at the new side.
 use Rattle.std.specs.Prelude.{◌++◌, length, ◌+◌, ◌<◌, find, ◌≡◌, ◌≢◌, ℕ, ◌⊎◌, Bool, true, false, not, ◌&&◌, ◌||◌, List, [], ◌∷◌, Some, IsTrue, cond}
 use Rattle.std.specs.Bool.{MatchBool}
 use Rattle.std.proofs.Common.{refl, sym, ap, ◌∙◌, inl, inr, subst, arith}
@@ -29,7 +29,7 @@ use Rattle.dr_model.proofs.ChainLaws.{and_left, and_right}
 use Rattle.dr_model.proofs.WholeTest.{same_side_itself, other_side}
 use Rattle.dr_model.proofs.PostPhase.{StageHolds, post_step-holds, callout_works, elsewhere}
 use Rattle.dr_model.proofs.SequenceLaws.{IsAhead, IsInSequence}
-use Rattle.dr_model.proofs.FinishLaws.{through, finish_frame, finish_post}
+use Rattle.dr_model.proofs.FinishLaws.{through, finish_frame, is_old, finish_post}
 
 pub through_map : {X : Type 0} (Step Then : Visit → X → X → Type 0) → (vs : List Visit) → Each (λ v. (x y : X) → Step v x y → Then v x y) vs → (x y : X) → Through Step vs x y → Through Then vs x y
 through_map Step Then [] f x y e = e
@@ -331,19 +331,8 @@ module _ (r : Run) (machines : List ℕ) (gone : IsGoneThrough r) (rightly : Exc
       go Op.Migrate b e f = one (λ g. let wrong : Op.Migrate ≡ Op.Failover = sym e ∙ g in absurd cc)
       go Op.Reprotect b e f = one (λ g. let wrong : Op.Reprotect ≡ Op.Failover = sym e ∙ g in absurd cc)
 
-  -- a post, but that of a left machine at the new side, and where nothing was skipped at the old one
-  pub post_reached : (m : PlanMachine) → IsMachineOf r.plan m → (w : Placed) (side : Side) → (same_side side r.old ≡ true → op r ≡ Op.Failover → r.start.forced ≡ true) → is_left r m.machine ≡ false → (x y : Post) → MeansPost r m.machine side w x y → ReachPost r m.machine side w x y
-  post_reached m of_plan w side unskipped kept x y means =
-      let (z, reach) = reach_made_post r m.machine side w x in
-      let same : y ≡ z = go (same_side side r.old) refl z means (finish_post r machines gone rightly may m of_plan w x z side reach) in
-      subst (λ p. ReachPost r m.machine side w x p) (sym same) reach
-    where
-      go : (b : Bool) → same_side side r.old ≡ b → (z : Post) → MatchBool b (OldPostMeaning (op r) r.start.forced r m.machine x y) (NewPostMeaning (op r) r m.machine w x y) → MatchBool b (OldPostMeaning (op r) r.start.forced r m.machine x z) (NewPostMeaning (op r) r m.machine w x z) → y ≡ z
-      go true e z a b = one_old (op r) r.start.forced r m.machine x y z (unskipped e) a b
-      go false e z a b = one_new (op r) r m.machine w x y z kept a b
-
   -- the post at the old side in a failover, where one Stop wave has the machine
-  pub failover_old_reached : (m : PlanMachine) → IsMachineOf r.plan m → IsSingle (stages_of r) (is_wave_of StageKind.Stop m.machine) → IsInSequence r → (w : Placed) → op r ≡ Op.Failover → r.start.forced ≡ false → (x y : Post) → OldPostMeaning Op.Failover false r m.machine x y → ReachPost r m.machine r.old w x y
+  failover_old_reached : (m : PlanMachine) → IsMachineOf r.plan m → IsSingle (stages_of r) (is_wave_of StageKind.Stop m.machine) → IsInSequence r → (w : Placed) → op r ≡ Op.Failover → r.start.forced ≡ false → (x y : Post) → OldPostMeaning Op.Failover false r m.machine x y → ReachPost r m.machine r.old w x y
   failover_old_reached m of_plan single sequence w e f x y (inl stops) =
       let (z, reach, is) = all_stopped r m.machine w (rw e refl) (through r machines gone rightly may) (stop_wave r m w e of_plan (through r machines gone rightly may) f) x in
       subst (λ p. ReachPost r m.machine r.old w x p) (is ∙ sym stops) reach
@@ -357,3 +346,31 @@ module _ (r : Run) (machines : List ℕ) (gone : IsGoneThrough r) (rightly : Exc
       or_other : (a b : Bool) → a ≡ false → a || b ≡ true → b ≡ true
       or_other true b ne h = absurd cc
       or_other false b ne h = h
+
+  -- a post, but that of a left machine at the new side
+  pub post_reached : (m : PlanMachine) → IsMachineOf r.plan m → IsInSequence r → (w : Placed) (side : Side) → (same_side side r.old ≡ true → op r ≡ Op.Failover → r.start.forced ≡ false → IsSingle (stages_of r) (is_wave_of StageKind.Stop m.machine)) → (same_side side r.old ≡ false → is_left r m.machine ≡ false) → (x y : Post) → MeansPost r m.machine side w x y → ReachPost r m.machine side w x y
+  post_reached m of_plan sequence w side single kept x y means = go (same_side side r.old) (op r) r.start.forced refl refl refl
+    where
+      same : (b : Bool) → same_side side r.old ≡ b → (b ≡ true → op r ≡ Op.Failover → r.start.forced ≡ true) → (z : Post) → MatchBool b (OldPostMeaning (op r) r.start.forced r m.machine x y) (NewPostMeaning (op r) r m.machine w x y) → MatchBool b (OldPostMeaning (op r) r.start.forced r m.machine x z) (NewPostMeaning (op r) r m.machine w x z) → y ≡ z
+      same true s ne z a b = one_old (op r) r.start.forced r m.machine x y z (ne refl) a b
+      same false s ne z a b = one_new (op r) r m.machine w x y z (kept s) a b
+
+      one : (same_side side r.old ≡ true → op r ≡ Op.Failover → r.start.forced ≡ true) → ReachPost r m.machine side w x y
+      one ne =
+          let (z, reach) = reach_made_post r m.machine side w x in
+          subst (λ p. ReachPost r m.machine side w x p) (sym (same (same_side side r.old) refl ne z means (finish_post r machines gone rightly may m of_plan w x z side reach))) reach
+
+      failed_over : same_side side r.old ≡ true → op r ≡ Op.Failover → r.start.forced ≡ false → ReachPost r m.machine side w x y
+      failed_over s e f =
+          let at_old : OldPostMeaning (op r) r.start.forced r m.machine x y = rw s at means in
+          let unforced : OldPostMeaning Op.Failover false r m.machine x y = subst (λ (b : Bool). OldPostMeaning Op.Failover b r m.machine x y) f (subst (λ (o : Op). OldPostMeaning o r.start.forced r m.machine x y) e at_old) in
+          subst (λ z. ReachPost r m.machine z w x y) (sym (is_old r machines gone rightly may m of_plan w x y side r.old true s)) (failover_old_reached m of_plan (single s e f) sequence w e f x y unforced)
+
+      go : (b : Bool) (o : Op) (f : Bool) → same_side side r.old ≡ b → op r ≡ o → r.start.forced ≡ f → ReachPost r m.machine side w x y
+      go true Op.Failover false s e f = failed_over s e f
+      go true Op.Failover true s e f = one (λ t g. f)
+      go true Op.Testing b s e f = one (λ t g. let wrong : Op.Testing ≡ Op.Failover = sym e ∙ g in absurd cc)
+      go true Op.Cleanup b s e f = one (λ t g. let wrong : Op.Cleanup ≡ Op.Failover = sym e ∙ g in absurd cc)
+      go true Op.Migrate b s e f = one (λ t g. let wrong : Op.Migrate ≡ Op.Failover = sym e ∙ g in absurd cc)
+      go true Op.Reprotect b s e f = one (λ t g. let wrong : Op.Reprotect ≡ Op.Failover = sym e ∙ g in absurd cc)
+      go false o b s e f = one (λ t g. let wrong : false ≡ true = sym s ∙ t in absurd cc)

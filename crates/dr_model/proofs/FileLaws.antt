@@ -11,7 +11,7 @@ use Rattle.dr_disk.specs.Disk.{Follows}
 use Rattle.dr_journal.specs.Reading.Reading.{Whole as WholeFile}
 use Rattle.dr_journal.specs.Kept.{SameRecords, Appends, AppendsSome}
 use Rattle.dr_journal.proofs.Laws.{whole_same}
-use Rattle.dr_model.specs.Types.{Estate, Record}
+use Rattle.dr_model.specs.Types.{Record}
 use Rattle.dr_model.specs.Worlds.{World}
 use Rattle.dr_model.specs.Runs.{Setting, Run, runs_of, add_record}
 use Rattle.dr_model.specs.Lawful.{MayCome}

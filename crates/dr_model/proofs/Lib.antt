@@ -34,6 +34,7 @@ pub mod FinishLaws
 pub mod StageOrder
 pub mod WaveOrder
 pub mod EqualLaws
+pub mod StopWaves
 pub mod MeaningLaws
 pub mod StartLaws
 pub mod JournalLaws
@@ -58,6 +59,7 @@ pub mod CallSound
 pub mod StepOrder
 pub mod WaveEntries
 pub mod CalloutLaws
+pub mod TokenLaws
 pub mod MayRunLaws
 pub mod TakenLaws
 pub mod MachineSound
@@ -65,3 +67,6 @@ pub mod FileLaws
 pub mod WalkEnds
 pub mod FitCalls
 pub mod SoundOpening
+pub mod SomeFrame
+pub mod StaysExpected
+pub mod MayFinishLaws

@@ -1,5 +1,5 @@
 -- The work of the begun stage on machines, whichever calls it made, keeps the outside sound, and so do more codes that are kept.
-use Rattle.std.specs.Prelude.{◌≡◌, ℕ, ◌<◌, ◌==◌, ◌⊎◌, Bool, true, false, List, ◌∷◌, [], Contains, Option, Some, None, cond, is_some}
+use Rattle.std.specs.Prelude.{◌≡◌, ℕ, ◌<◌, ◌==◌, ◌⊎◌, Bool, true, false, List, [], Contains, Option, Some, None, cond, is_some}
 use Rattle.std.proofs.Common.{refl, sym, ap, ◌∙◌, inl, inr, subst}
 use Rattle.dr_groups.specs.Groups.{IsMachineOf as IsOfGroup}
 use Rattle.dr_outside.specs.BySide.{at}
@@ -9,7 +9,7 @@ use Rattle.dr_model.specs.Types.{Side, Sides, Placed, Pair, Post, Kept, PlanMach
 use Rattle.dr_model.specs.StartUp.{is_started}
 use Rattle.dr_model.specs.Worlds.{World}
 use Rattle.dr_model.specs.Stages.{has, stage_at}
-use Rattle.dr_model.specs.Visits.{visits, begun, all}
+use Rattle.dr_model.specs.Visits.{begun, all}
 use Rattle.dr_model.specs.Runs.{Setting, Run, number, op, new, stages_of, holds, is_finished, is_open, run_at, last_of_group, runs_of}
 use Rattle.dr_model.specs.Outcomes.{PostOutcome}
 use Rattle.dr_model.specs.Reach.{works}
@@ -23,9 +23,7 @@ use Rattle.dr_model.specs.Backing.{IsRegularPlan, HasRegularPlans, Names, KeepsO
 use Rattle.dr_model.proofs.Lists.{Each, each-map, each-find, all_each}
 use Rattle.dr_model.proofs.Elements.{each-contains, has-contains}
 use Rattle.dr_model.proofs.StageLaws.{stage_from-each}
-use Rattle.dr_model.proofs.ReachLaws.{begun_visit}
-use Rattle.dr_model.proofs.PostWalk.{post-call}
-use Rattle.dr_model.proofs.TableLaws.{table_falls, open_is_last}
+use Rattle.dr_model.proofs.TableLaws.{open_is_last}
 use Rattle.dr_model.proofs.LogLaws.{unfinished}
 use Rattle.dr_model.proofs.ChainLaws.{IsWellKept, HasPlan, pick}
 use Rattle.dr_model.proofs.PostPhase.{StageHolds}
@@ -33,7 +31,7 @@ use Rattle.dr_model.proofs.FitsDrift.{drift_fits}
 use Rattle.dr_model.proofs.SoundAppend.{well_of}
 use Rattle.dr_model.proofs.ReadyLaws.{ready_holds}
 use Rattle.dr_model.proofs.StartLaws.{in_order-grows}
-use Rattle.dr_model.proofs.LawSteps.{IsUnderWay, under_way}
+use Rattle.dr_model.proofs.StaysExpected.{call_keeps_post}
 use Rattle.dr_model.proofs.CallSound.{serves_drift}
 
 -- Kept codes ---------------------------------------------------------------------------------------------------
@@ -77,8 +75,8 @@ module _ (old now : World) (more : OnlyKeepsCodes old now) where
   frames : (p : ℕ) → frame_of (now.pair p) ≡ frame_of (old.pair p)
   frames p = ap (λ (f : ℕ → Pair). frame_of (f p)) same_pairs
 
-  codes_keep_order : (runs : List Run) (run : Run) → KeepsOrder old now runs run
-  codes_keep_order runs run = record {
+  codes_keep_order : (run : Run) → KeepsOrder old now run
+  codes_keep_order run = record {
     ready = λ m named h. ap (λ (f : ℕ → Sides Post). is_ready (at (new run) (f m))) same_posts ∙ h;
     kept = λ m. keeps_more (old.kept m) (now.kept m) (more.machines m);
     runner = keeps_more old.runner now.runner more.runner;
@@ -92,7 +90,7 @@ module _ (old now : World) (more : OnlyKeepsCodes old now) where
     machines = λ g m of_group below. subst (λ (f : ℕ → Sides Post). FitsMachine setting.estate runs g m (f m)) (sym same_posts) (s.machines g m of_group (machine_there m below));
     consistent = λ g p q p_of q_of p_there q_there same. frames p ∙ s.consistent g p q p_of q_of (pair_there p p_there) (pair_there q q_there) same ∙ sym (frames q);
     codes = codes_kept old now more.machines more.runner runs s.codes;
-    in_order = in_order-grows old now runs (λ g run last all_last up. codes_keep_order runs run) s.in_order;
+    in_order = in_order-grows old now runs (λ g run last all_last up. codes_keep_order run) s.in_order;
   }
 
   pub file_kept_sound : (file : List ℕ) → IsSound old file → IsSound now file
@@ -138,12 +136,7 @@ module _ (setting : Setting) (records : List Record) (lawful : LawfulAfter setti
       as_it_was same = subst (λ y. ExpectedPost setting.estate g m side runs y) (sym same) h
 
       outcome : works r (stage_at (stages_of r) stage) m side ≡ true → holds g r ≡ true → PostOutcome (stage_at (stages_of r) stage).kind (wanted g r m) (at side (old.post m)) (at side (now.post m)) → ExpectedPost setting.estate g m side runs (at side (now.post m))
-      outcome e held out = by_visit (under_way r.log stage its)
-        where
-          by_visit : IsUnderWay r.log stage → ExpectedPost setting.estate g m side runs (at side (now.post m))
-          by_visit way =
-              let shape : visits r.log ≡ begun_visit stage way.visit.excused ∷ way.earlier = way.shape ∙ (λ i. record { stage = way.of_stage i; done = way.undone i; excused = way.visit.excused } ∷ way.earlier) in
-              post-call setting.estate g m side runs r (table_falls runs well.table) (last_for g held) unfin stage way.visit.excused way.earlier (at side (old.post m)) (at side (now.post m)) shape e out h
+      outcome e held out = call_keeps_post setting records g m side r stage (at side (old.post m)) (at side (now.post m)) lawful (last_for g held) unfin its e h out
 
       go : (b : Bool) → works r (stage_at (stages_of r) stage) m side ≡ b → ExpectedPost setting.estate g m side runs (at side (now.post m))
       go false e = as_it_was (calls.others m side e)
@@ -224,7 +217,7 @@ module _ (setting : Setting) (records : List Record) (lawful : LawfulAfter setti
         by_old true e = inl e
         by_old false e = inr (go e (changed m.machine (m, listed, inl refl)))
 
-    keeps_order : KeepsOrder old now runs run
+    keeps_order : KeepsOrder old now run
     keeps_order = record {
       ready = stays_ready;
       kept = λ m. keeps_more (old.kept m) (now.kept m) (calls.kept m);

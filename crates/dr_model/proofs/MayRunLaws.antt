@@ -40,7 +40,7 @@ use Rattle.dr_model.proofs.WaveEntries.{one_entry, in_wave, starts_up}
 use Rattle.dr_model.proofs.CalloutLaws.{IsCodedAt, IsAnsweredAt, TakesSteps, steps-lawful, coded_kept}
 
 -- but for a failover, no machine is left
-none_left : (run : Run) → Each (λ v. v.excused ≡ []) (visits run.log) → (d : ℕ) → is_left run d ≡ false
+pub none_left : (run : Run) → Each (λ v. v.excused ≡ []) (visits run.log) → (d : ℕ) → is_left run d ≡ false
 none_left run none d = go (find (λ v. is_wave_of StageKind.Start d (stage_of run v)) (visits run.log)) refl
   where
     go : (o : Option Visit) → find (λ v. is_wave_of StageKind.Start d (stage_of run v)) (visits run.log) ≡ o → is_left run d ≡ false

@@ -62,7 +62,7 @@ recovered Op.Testing forced r s x y is side source none means = absurd cc
 recovered Op.Cleanup forced r s x y is side source none means = absurd cc
 recovered Op.Reprotect forced r s x y is side source none means = absurd cc
 
-in_ready : (s : Side) (phase : Phase) (x : Frame) → phase ≡ Phase.Ready → InPhase s phase x → x ≡ opening_frame s
+pub in_ready : (s : Side) (phase : Phase) (x : Frame) → phase ≡ Phase.Ready → InPhase s phase x → x ≡ opening_frame s
 in_ready s phase x e h = rw e at h
 
 finish_phase : (o : Op) (forced : Bool) (r : Run) (state : GroupState) (x y : Frame) → r.old ≡ state.protected → StartsFrom o r.start.plan state → AtRest state x → FrameMeaning o forced r x y → AtRest (finish o r.start.plan state) y

@@ -110,7 +110,7 @@ either_or None b j e = inr e
 either_or (Some x) b j e = inl e
 
 -- the stage that a lawful Begin names
-begins_at : (runs : List Run) (r : Run) (j : ℕ) → MayBegin r j → (least_stage (is_worked_again r) 1 (stages_of r) ≡ Some j) ⊎ (least_undone r ≡ Some j)
+pub begins_at : (runs : List Run) (r : Run) (j : ℕ) → MayBegin r j → (least_stage (is_worked_again r) 1 (stages_of r) ≡ Some j) ⊎ (least_undone r ≡ Some j)
 begins_at runs r j may = go (begun r.log) may.none_begun
   where
     go : (o : Option ℕ) → begun r.log ≡ None → (least_stage (is_worked_again r) 1 (stages_of r) ≡ Some j) ⊎ (least_undone r ≡ Some j)

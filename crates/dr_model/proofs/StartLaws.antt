@@ -91,7 +91,7 @@ waves_in_order setting records g r v earlier x y lawful last going up shape begu
 
 -- Changes of the outside
 
-module _ (w z : World) (runs : List Run) (run : Run) (h : KeepsOrder w z runs run) where
+module _ (w z : World) (run : Run) (h : KeepsOrder w z run) where
   steps_grow : (priority k : ℕ) (steps : List Step) → StepsTaken w.runner run priority k steps → StepsTaken z.runner run priority k steps
   steps_grow priority k [] s = tt
   steps_grow priority k (step ∷ steps) s = (λ le. taken step.what (s.0 le), steps_grow priority (k + 1) steps s.1)
@@ -114,12 +114,12 @@ module _ (w z : World) (runs : List Run) (run : Run) (h : KeepsOrder w z runs ru
       ready q in_plan (inr e) = inr e
 
 -- A change of the outside in which each machine that runs anew may, keeps all in order.
-pub in_order-grows : (w z : World) (runs : List Run) → ((g : ℕ) (run : Run) → last_of_group g runs ≡ Some run → Each (λ h. last_of_group h runs ≡ Some run) run.start.groups → is_start_up (op run) ≡ true → KeepsOrder w z runs run) → InOrder w runs → InOrder z runs
+pub in_order-grows : (w z : World) (runs : List Run) → ((g : ℕ) (run : Run) → last_of_group g runs ≡ Some run → Each (λ h. last_of_group h runs ≡ Some run) run.start.groups → is_start_up (op run) ≡ true → KeepsOrder w z run) → InOrder w runs → InOrder z runs
 in_order-grows w z runs grows h g run last all_last up =
-    let keep : KeepsOrder w z runs run = grows g run last all_last up in
+    let keep : KeepsOrder w z run = grows g run last all_last up in
     each-contains (λ m. is_started (at (new run) (z.post m.machine)) ≡ true → MayRun z run m) run.plan.machines
     (λ m listed running. one keep m listed (at-contains _ run.plan.machines m keep.starts listed running))
   where
-    one : KeepsOrder w z runs run → (m : PlanMachine) → Contains run.plan.machines m → (is_started (at (new run) (w.post m.machine)) ≡ true) ⊎ MayRun z run m → MayRun z run m
-    one keep m listed (inl was) = may_run_grows w z runs run keep m listed (at-contains _ run.plan.machines m (h g run last all_last up) listed was)
+    one : KeepsOrder w z run → (m : PlanMachine) → Contains run.plan.machines m → (is_started (at (new run) (w.post m.machine)) ≡ true) ⊎ MayRun z run m → MayRun z run m
+    one keep m listed (inl was) = may_run_grows w z run keep m listed (at-contains _ run.plan.machines m (h g run last all_last up) listed was)
     one keep m listed (inr may) = may

@@ -14,7 +14,7 @@ use Rattle.dr_model.proofs.JournalLaws.{GoesOn, still_going}
 use Rattle.dr_model.proofs.EachRun.{each-lawful}
 
 -- where no stage is undone, each is done
-none_undone : (test : ℕ → Bool) (n : ℕ) (stages : List Stage) → least_stage (λ k stage. not (test k)) n stages ≡ None → (k : ℕ) → n ≤ k → k < n + length stages → test k ≡ true
+pub none_undone : (test : ℕ → Bool) (n : ℕ) (stages : List Stage) → least_stage (λ k stage. not (test k)) n stages ≡ None → (k : ℕ) → n ≤ k → k < n + length stages → test k ≡ true
 none_undone test n [] none k above below = absurd (omega (arith, above, below))
 none_undone test n (s ∷ stages) none k above below = go (test n) refl (none_undone test (n + 1) stages)
   where

@@ -1,6 +1,7 @@
 -- What the outside must show before a record is written, so that the journal stays sound with it.
 use Rattle.std.specs.Prelude.{◌≡◌, ℕ, ◌<◌, ◌≤◌, ◌⊎◌, true, false, List, Contains, Some, IfSome, slice_get}
 use Rattle.std.specs.List.{AllByRecursion}
+use Rattle.std.specs.List.Sorted.{IsStrictlyIncreasing}
 use Rattle.dr_groups.specs.Groups.{IsPairOf, IsMachineOf}
 use Rattle.dr_plan.specs.Orders.{IsOrdered}
 use Rattle.dr_outside.specs.BySide.{at}
@@ -19,12 +20,14 @@ use Rattle.dr_model.specs.InOrder.{keeps, is_ready_at_new, IsPairOfMachine, IsSe
 
 -- Plans ----------------------------------------------------------------------------------------------------------
 
--- a plan is in order, and has exactly the machines and pairs of its groups
+-- a plan is in order, and has exactly the machines and pairs of its groups; its pairs ascend
 pub record IsRegularPlan (estate : Estate) (plan : Plan) : Type 0 where
   pub ordered : IsOrdered plan
   pub machines : (m : PlanMachine) → Contains plan.machines m → (g : ℕ) × Contains plan.groups g × IsMachineOf estate g m.machine
   pub all_machines : (g m : ℕ) → Contains plan.groups g → IsMachineOf estate g m → (entry : PlanMachine) × Contains plan.machines entry × (entry.machine ≡ m)
+  pub pairs : (p : ℕ) → Contains plan.pairs p → (g : ℕ) × Contains plan.groups g × IsPairOf estate g p
   pub all_pairs : (g p : ℕ) → Contains plan.groups g → IsPairOf estate g p → Contains plan.pairs p
+  pub pairs_ascend : IsStrictlyIncreasing plan.pairs
 
 -- each plan in force is so
 abbrev pub HasRegularPlans : Setting → Type 0
@@ -42,7 +45,7 @@ IsEarlier m stage = (m.priority < stage.priority) ⊎ ((m.priority ≡ stage.pri
 
 -- Other records --------------------------------------------------------------------------------------------------
 
--- a record that asks nothing of the pairs and posts
+-- a record that asks nothing of the pairs and posts, and leaves its run open
 abbrev pub IsPlain : Record → Type 0
 IsPlain (Record.Attempt n moment) = Unit {0}
 IsPlain (Record.Begin n stage) = Unit {0}
@@ -94,7 +97,7 @@ abbrev pub Names : Plan → ℕ → Type 0
 Names plan machine = (m : PlanMachine) × Contains plan.machines m × ((machine ≡ m.machine) ⊎ Contains m.after machine)
 
 -- what may change for a run that starts machines: nothing that they rest on is lost, and each that was started anew may be so
-pub record KeepsOrder (old new_world : World) (runs : List Run) (run : Run) : Type 0 where
+pub record KeepsOrder (old new_world : World) (run : Run) : Type 0 where
   pub ready : (m : ℕ) → Names run.plan m → is_ready_at_new old run m ≡ true → is_ready_at_new new_world run m ≡ true
   pub kept : (m t : ℕ) → keeps (old.kept m) t ≡ true → keeps (new_world.kept m) t ≡ true
   pub runner : (t : ℕ) → keeps old.runner t ≡ true → keeps new_world.runner t ≡ true

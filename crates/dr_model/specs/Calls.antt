@@ -36,7 +36,7 @@ CalledBy (Some call) p q = Made call p q ⊎ Drift p q
 abbrev pub Called : Run → StageKind → Pair → Pair → Type 0
 Called run kind p q = CalledBy (call_of run kind) p q
 
--- a pair that a stage's call leaves out, since what it makes is made already; a stage without a call leaves out all
+-- a pair that isn't in the list of a stage's call: split already (Sync, FinalSync, Split), with this test's snapshot (TestStart), without one (TestStop), frozen (Prepare), reversed (Reverse); a stage without a call leaves out all
 abbrev pub IsLeftOut : Run → StageKind → Pair → Type 0
 IsLeftOut run StageKind.Sync pair = pair.link ≡ Link.Split
 IsLeftOut run StageKind.FinalSync pair = pair.link ≡ Link.Split
@@ -64,7 +64,7 @@ MadeBy (Some call) p q = Made call p q
 abbrev pub IsWorked : Run → StageKind → Pair → Pair → Type 0
 IsWorked run kind p q = (IsLeftOut run kind p × Drift p q) ⊎ MadeBy (call_of run kind) p q
 
--- a call of a run, Ok or Failed, over all pairs: which it made, each of a group that the run holds, and of one consistency group all or none
+-- a call of a run to the array, Ok or Failed, over all pairs: which of them it made. None of a group that the run doesn't hold, and of a group's pairs that are of one consistency group and had one frame all or none
 pub record CallsPairs (estate : Estate) (run : Run) (call : ArrayCall) (old now : World) : Type 0 where
   pub which : ℕ → Bool
   pub each : (p : ℕ) → PairStep call (which p) (old.pair p) (now.pair p)

@@ -1,9 +1,10 @@
--- What one call may change.
+-- What one call of the desk may change, from its beginning to its end.
 use Rattle.std.specs.Prelude.{◌≡◌, ℕ, ◌+◌, ◌≤◌, ◌==◌, ◌⊎◌, Bool, true, false, ◌&&◌, ◌||◌, not, IsTrue, List, [], ◌∷◌, ◌++◌, Contains, Option, Some, None, IfSome, find, slice_get}
 use Rattle.std.specs.List.{list_any, list_all, AllByRecursion}
 use Rattle.dr_groups.specs.Groups.{IsPairOf, IsMachineOf}
 use Rattle.dr_base.specs.Sides.{other}
 use Rattle.dr_outside.specs.BySide.{at}
+use Rattle.dr_outside.specs.Commands.{HasTokensOnce}
 use Rattle.dr_outside.specs.Pairs.{Drift}
 use Rattle.dr_model.specs.Types.{Side, Op, Callout, Step, PlanMachine, Kept, StageKind, Stage, StartRow, StartPair, Record}
 use Rattle.dr_model.specs.Testing.{DriftsButSnapshot}
@@ -74,7 +75,7 @@ abbrev pub all_commands_of : Option PlanMachine → List (Option (List ℕ))
 all_commands_of None = []
 all_commands_of (Some machine) = machine.commands
 
--- a code that a machine keeps is of a command of it, in one of these runs, which has begun to start it: under the command's fixed token, with its name, at the run's new side
+-- a code that a machine keeps is of a command of it, in one of these runs, which has begun to start it, itself or in the migration that it took over: under the command's token, with its name, at the run's new side
 pub record IsMachineCommand (runs : List Run) (machine : ℕ) (kept : Kept) : Type 0 where
   pub run : Run
   pub listed : Contains runs run
@@ -91,7 +92,7 @@ pub record IsCommandStep (steps : List Step) (number : ℕ) (name : List ℕ) : 
   pub counted : number ≡ place + 1
   pub step : slice_get steps place ≡ Some (record { before = before; what = Callout.Command name })
 
--- a code that the runner keeps is of a step of one of these runs, which has begun its stage: under the step's fixed token, with its name
+-- a code that the runner keeps is of a step of one of these runs, which has begun its stage, itself or in the migration that it took over: under the step's token, with its name
 pub record IsStepCommand (runs : List Run) (kept : Kept) : Type 0 where
   pub run : Run
   pub listed : Contains runs run
@@ -101,11 +102,12 @@ pub record IsStepCommand (runs : List Run) (kept : Kept) : Type 0 where
   pub side : kept.side ≡ None
   pub begun : HasBegun run (RunsStep number)
 
--- a kept list only grows, and each new code is so
+-- a kept list only grows, each new code is so, and none is of a token that was kept
 pub record GrowsBy (Is : Kept → Type 0) (old new : List Kept) : Type 0 where
   pub added : List Kept
   pub grows : new ≡ old ++ added
   pub each : AllByRecursion Is added
+  pub once : HasTokensOnce old → HasTokensOnce new
 
 -- What a Start read ------------------------------------------------------------------------------------------
 
@@ -132,16 +134,16 @@ new_writes_of (Some row) = row.new_writes
 abbrev pub new_writes_in : ℕ → Run → ℕ
 new_writes_in pair run = new_writes_of (row_of pair run.start)
 
--- the least that a later Start may give of a pair: what was there, or what the last reprotect of its group read that these records finish
+-- the least writes that a later Start may give of a pair: those that were there, or, since a reverse discards writes, those that the last reprotect of its group read at its new side which these records finish
 abbrev pub least_of : ℕ → (was : ℕ) → Option Run → ℕ
 least_of pair was None = was
 least_of pair was (Some run) = new_writes_in pair run
 
--- a side's writes at the start, or what the last such reprotect read
+-- the same of a side: its writes at the call's beginning, or, of both sides, what such a reprotect read
 abbrev pub least_at : (group pair : ℕ) → List Record → List Run → World → Side → ℕ
 least_at group pair earlier runs old side = least_of pair (at side (old.pair pair).content).writes (find (has_reversed group earlier) runs)
 
--- a pair's row in a Start gives at least the writes that were there: at the new side always, at the old side where it was read
+-- a pair's row in a Start gives at least these writes: at the new side always, at the old side where it was read
 pub record ReadsAtLeast (least : Side → ℕ) (old_side : Side) (row : StartPair) : Type 0 where
   pub new_side : least (other old_side) ≤ row.new_writes
   pub old_side_too : row.seen ≡ true → least old_side ≤ row.old_writes
@@ -150,7 +152,7 @@ pub record ReadsAtLeast (least : Side → ℕ) (old_side : Side) (row : StartPai
 abbrev pub NoneHas : (List ℕ → Type 0) → Record → Type 0
 NoneHas images item = (file : List ℕ) (records : List Record) → images file → HasRecords records file → ¬ Contains records item
 
--- a Start behind these records, which no image at the start has, read truly
+-- a Start behind these records, which no image at the call's beginning has, gives no fewer writes of a pair than that
 abbrev pub ReadTruly : Setting → (List ℕ → Type 0) → (was earlier : List Record) → StartRow → World → Type 0
 ReadTruly setting images was earlier row old =
     NoneHas images (Record.Start row) →
@@ -159,7 +161,7 @@ ReadTruly setting images was earlier row old =
 
 -- One call -----------------------------------------------------------------------------------------------------
 
--- what a call changes of the outside, where `was` was kept at its start, and `more` is kept behind it at its end
+-- what a call of the desk changes of the outside, where the records `was` are kept at its beginning, and `more` behind them at its end
 pub record ChangesWorld (setting : Setting) (images : List ℕ → Type 0) (was more : List Record) (old new : World) : Type 0 where
   -- an object of no group that is held by a run with a new record is as it was, a pair but for drift
   pub idle_pairs : (p : ℕ) → ((g : ℕ) → IsPairOf setting.estate g p → is_touched g more (runs_of setting (was ++ more)) ≡ false) → Drift (old.pair p) (new.pair p)
@@ -171,19 +173,19 @@ pub record ChangesWorld (setting : Setting) (images : List ℕ → Type 0) (was 
   -- kept lists only grow, by commands of runs that have begun them
   pub kept : (m : ℕ) → GrowsBy (IsMachineCommand (runs_of setting (was ++ more)) m) (old.kept m) (new.kept m)
   pub runner : GrowsBy (IsStepCommand (runs_of setting (was ++ more))) old.runner new.runner
-  -- a new Start gives what was there
+  -- a new Start gives no fewer writes than there were
   pub starts : (earlier later : List Record) (row : StartRow) → more ≡ earlier ++ Record.Start row ∷ later → ReadTruly setting images was earlier row old
 
--- nothing changes but by drift
+-- nothing changes but pairs, by drift
 pub record OnlyDrifts (old new : World) : Type 0 where
   pub pairs : (p : ℕ) → Drift (old.pair p) (new.pair p)
   pub posts : (m : ℕ) → new.post m ≡ old.post m
   pub kept : (m : ℕ) → new.kept m ≡ old.kept m
   pub runner : new.runner ≡ old.runner
 
--- what one call changes: what was kept is kept, and the outside changes by the records that are new
+-- what one call of the desk changes: what was kept is kept, and the outside changes as the records that are new say
 pub record Changes (old_images new_images : List ℕ → Type 0) (old new : World) : Type 0 where
   pub keeps : Keeps old_images new_images
   pub world : (was more : List Record) (setting : Setting) → AreKept old_images was → AreKept new_images (was ++ more) → IsLawful setting (was ++ more) → ChangesWorld setting old_images was more old new
-  -- where nothing is kept at its end, no run has a record
+  -- where no record is kept at its end, nothing changes but pairs, by drift
   pub empty : AreKept new_images [] → OnlyDrifts old new

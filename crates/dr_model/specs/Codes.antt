@@ -43,6 +43,6 @@ abbrev pub half_code : Side → Bool → Half → ℕ
 half_code side as_wanted half =
     bit 1 (same_side half.source B) + bit 2 (not (is_live half.link)) + bit 4 half.writable + bit 8 (same_side side B) + bit 16 (is_some half.snapshot) + bit 32 (not as_wanted)
 
--- a code that a refused call told, and no question
+-- a code that a refused call told, and no question: 64 more
 abbrev pub told_by_refusal : ℕ → ℕ
 told_by_refusal code = code + 64

@@ -38,7 +38,7 @@ abbrev pub is_in_bubble : Op → Bool
 is_in_bubble Op.Testing = true
 is_in_bubble _ = false
 
--- the placement of a machine of this group at a side, in a bubble or not
+-- the placement of a machine of this group at a side, in a bubble or not, by the maps from the side that the estate names for the group
 abbrev pub placed_at : Estate → (group machine : ℕ) → Side → Bool → Placed
 placed_at estate group machine side bubble =
     record { place = given (place_of estate machine (named_side estate group) side bubble); bubble = bubble }

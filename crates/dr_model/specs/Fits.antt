@@ -41,12 +41,12 @@ is_whole_in stages log kind = is_visit_whole (last_visit_in stages log (is_of_ki
 abbrev pub is_done_whole : Run → StageKind → Bool
 is_done_whole run kind = is_whole_in (stages_of run) run.log kind
 
--- the writes of a live target, or the base of a side that was split off
+-- the writes of a live pair's side, or the base of a split one's
 abbrev pub held_by : Link → Content → ℕ
 held_by Link.Live content = content.writes
 held_by Link.Split content = content.base
 
--- the writes of old that the other side holds
+-- how many of the old side's writes the other side is sure to have: its writes while the pair is live, its base once it is split
 abbrev pub held : Side → Pair → ℕ
 held old pair = held_by pair.link (at (other old) pair.content)
 
@@ -64,7 +64,7 @@ pub record IsReplicating (pair : Pair) : Type 0 where
   pub line : (at (other pair.source) pair.content).line ≡ (at pair.source pair.content).line
   pub behind : (at (other pair.source) pair.content).writes ≤ (at pair.source pair.content).writes
 
--- a split pair: the new side has the line of the root that split it, at most its writes as base, and at least the writes that the root's Start read there
+-- a split pair: the new side's line is the root of the run that split it, and its base is at most its writes, and at least the writes that the root's Start read there
 pub record IsSplitBy (number : ℕ) (pair : Pair) (new : Side) (root : ℕ) (start : StartRow) : Type 0 where
   pub line : (at new pair.content).line ≡ root
   pub base : (at new pair.content).base ≤ (at new pair.content).writes
@@ -74,7 +74,7 @@ pub record IsSplitBy (number : ℕ) (pair : Pair) (new : Side) (root : ℕ) (sta
 abbrev pub IsSplitIn : ℕ → Pair → Run → Type 0
 IsSplitIn number pair run = IsSplitBy number pair (new run) (root run) (root_start run)
 
--- a test has replicated a pair: the new side and the test's snapshot have at least the writes that its Start read at the old side
+-- a test has replicated a pair: the new side holds at least the writes that the test's Start read at the old side, and so does the test's snapshot, which is of the source's line
 pub record IsReplicatedTest (test : ℕ) (old : Side) (pair : Pair) (row : StartPair) : Type 0 where
   pub replicated : row.old_writes ≤ held old pair
   pub snapshot : IfSome pair.snapshot (λ s. s.run ≡ test → (s.content.line ≡ (at pair.source pair.content).line) × (row.old_writes ≤ s.content.writes))
@@ -109,7 +109,7 @@ pub record FitsWrites (k : ℕ) (pair : Pair) (run : Run) : Type 0 where
   pub kept_all_before : IfSome (migration run) (λ taken. was_frozen_and_replicated taken ≡ true → HoldsAll run.old pair)
   pub reversed : op run ≡ Op.Reprotect → is_done_whole run StageKind.FinalSync ≡ true → IfSome (row_of k run.start) (λ row. row.new_writes ≤ (at run.old pair.content).writes)
 
--- whether a run holds the group and splits its pairs
+-- whether a run holds the group, and is one that splits pairs
 abbrev pub splits : ℕ → Run → Bool
 splits group run = holds group run && is_recovery (op run)
 

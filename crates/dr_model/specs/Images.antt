@@ -7,7 +7,7 @@ use Rattle.dr_model.specs.Journals.{HasRecords}
 abbrev pub BeginWith : (List ℕ → Type 0) → List Record → Type 0
 BeginWith images records = (file : List ℕ) → images file → (more : List Record) × HasRecords (records ++ more) file
 
--- these are the longest with which each image begins: no image at all has none
+-- the longest list of records with which every image begins; where there is no image, no list is it
 pub record AreKept (images : List ℕ → Type 0) (records : List Record) : Type 0 where
   pub begin : BeginWith images records
   pub longest : (longer : List Record) → BeginWith images longer → length longer ≤ length records
@@ -16,11 +16,11 @@ pub record AreKept (images : List ℕ → Type 0) (records : List Record) : Type
 abbrev pub Keeps : (old new : List ℕ → Type 0) → Type 0
 Keeps old new = (records : List Record) → BeginWith old records → BeginWith new records
 
--- so many records are kept at least
+-- n is at most the number of records that are kept
 abbrev pub IsAtMostKept : (List ℕ → Type 0) → ℕ → Type 0
 IsAtMostKept images n = (records : List Record) → AreKept images records → n ≤ length records
 
--- so many records are kept at most
+-- n is at least the number of records that are kept
 abbrev pub IsAtLeastKept : (List ℕ → Type 0) → ℕ → Type 0
 IsAtLeastKept images n = (records : List Record) → AreKept images records → length records ≤ n
 

@@ -12,7 +12,7 @@ use Rattle.dr_model.specs.Worlds.{World}
 use Rattle.dr_model.specs.Runs.{Run, number, op, new, root, last_of_group}
 use Rattle.dr_model.specs.Lawful.{token_of, tokens_from, is_answered}
 
--- whether a machine is ready, wherever
+-- whether a machine is ready, in any placement
 abbrev pub is_ready : Post → Bool
 is_ready (Post.Ready placed) = true
 is_ready _ = false
@@ -59,7 +59,7 @@ StepsTaken runner run priority number [] = Unit {0}
 StepsTaken runner run priority number (step ∷ steps) =
     (step.before ≤ priority → StepTaken runner run number step.what) × StepsTaken runner run priority (number + 1) steps
 
--- a machine of a run's plan may be started at the new side
+-- a machine of a run's plan may be started at the new side: what it rests on is ready, taken or served
 pub record MayRun (world : World) (run : Run) (machine : PlanMachine) : Type 0 where
   -- those that it depends on are ready there
   pub dependencies : AllByRecursion (λ m. IsTrue (is_ready_at_new world run m)) machine.after

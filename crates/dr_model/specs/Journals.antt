@@ -1,7 +1,7 @@
 -- What a journal's file tells: records, the setting that the first of them declares, and runs.
 use Rattle.std.specs.Prelude.{◌≡◌, ℕ, ◌+◌, ◌⊎◌, List, [], ◌∷◌, ◌++◌, length}
 use Rattle.dr_inventory.specs.Estates.{IsEstateText}
-use Rattle.dr_groups.specs.declared.lists.Members.{Members}
+use Rattle.dr_inventory.specs.declared.members.Members.{Members}
 use Rattle.dr_setting.specs.Settings.{IsSetting}
 use Rattle.dr_records.specs.Spelling.{IsRecord, spelling}
 use Rattle.dr_journal.specs.Reading.{all_record_bytes, journal_of}
@@ -20,7 +20,7 @@ pub record Declares (bytes : List ℕ) (setting : Setting) : Type 0 where
 
 -- The records of a file --------------------------------------------------------------------------------------
 
--- the journal's first record is an Estate that declares this setting, and each other record may come after those before it
+-- the journal's first record, if it has one, is an Estate that declares this setting, and each other record may come after those before it
 abbrev pub IsLawful : Setting → List Record → Type 0
 IsLawful setting [] = Unit {0}
 IsLawful setting (Record.Estate bytes ∷ rest) = Declares bytes setting × LawfulAfter setting [] rest
@@ -64,7 +64,7 @@ pub record MayFollow (records : List Record) (item : Record) : Type 0 where
   pub setting : Setting
   pub lawful : IsLawful setting (records ++ item ∷ [])
 
--- at this place stands the gate of the first record that spells none, or that may not come behind those before it
+-- at this place stands the gate of the first body that spells no record, or one that may not come behind those before it
 pub record IsUnlawfulAt (place : ℕ) (file : List ℕ) : Type 0 where
   pub before : List (List ℕ)
   pub body : List ℕ

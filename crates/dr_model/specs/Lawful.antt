@@ -34,7 +34,7 @@ is_code token machine _ = false
 abbrev pub is_coded : Run → ℕ → ℕ → Bool
 is_coded run token machine = list_any (is_code token machine) run.log
 
--- the token of a command, by its run's root and its index: the number of a step, or the place among a machine's commands
+-- the token of a command, by its run's root and its index: a step's number in the plan, from 1, or the place among a machine's commands, from 0. What keeps a code, the runner or a machine, tells a step's token from a machine's
 abbrev pub token_of : (root index : ℕ) → ℕ
 token_of root index = root * 2 ^ 32 + index
 
@@ -44,7 +44,7 @@ tokens_from root index [] = []
 tokens_from root index (None ∷ commands) = tokens_from root (index + 1) commands
 tokens_from root index (Some name ∷ commands) = token_of root index ∷ tokens_from root (index + 1) commands
 
--- the tokens of a machine's commands: 0 and 1 before power-on, 2 and 3 after it
+-- the tokens of a machine's commands, of which those of index 0 and 1 run before power-on, and those of 2 and 3 after it
 abbrev pub tokens_of_machine : ℕ → Option PlanMachine → List ℕ
 tokens_of_machine root None = []
 tokens_of_machine root (Some machine) = tokens_from root 0 machine.commands
@@ -95,12 +95,12 @@ number_or_0 (Some run) = number run
 abbrev pub over_for : StartRow → List Run → ℕ
 over_for row runs = number_or_0 (find (is_taken_over row) runs)
 
--- whether a Start is that of a cleanup that takes over a test, which may stand in any phase
+-- whether a Start is that of a cleanup that takes over a test: its groups may be in any phase
 abbrev pub is_over_test : Op → ℕ → Bool
 is_over_test Op.Cleanup over = not (over == 0)
 is_over_test _ over = false
 
--- whether the old side is read for a pair: in a test and a migration always, in a failover that isn't forced where it could be
+-- whether the old side is read for a pair: in a test and a migration always, in a failover that isn't forced perhaps, otherwise never
 abbrev pub SeenFor : Op → Bool → Bool → Type 0
 SeenFor Op.Testing forced seen = seen ≡ true
 SeenFor Op.Migrate forced seen = seen ≡ true
@@ -118,7 +118,7 @@ pub record IsPairRow (row : StartRow) (pair : StartPair) : Type 0 where
 abbrev pub AreFree : List Run → ℕ → List ℕ → Type 0
 AreFree runs over groups = AllByRecursion (λ run. is_open run ≡ true → number run ≢ over → AllByRecursion (λ g. holds g run ≡ false) groups) runs
 
--- a Start of this plan may come
+-- a Start of this plan may come: it has the next number and a new id, the plan's groups and pairs, takes over what it must, its groups are in the phase from which it starts, of one protected side, and in no other open run
 pub record MayStart (setting : Setting) (runs : List Run) (row : StartRow) (plan : Plan) : Type 0 where
   pub numbered : row.run ≡ length runs + 1
   pub new_id : AllByRecursion (λ run. run.start.id ≢ row.id) runs
@@ -146,7 +146,7 @@ HasCodes run StageKind.Start stage =
     AllByRecursion (λ m. is_left run m ≡ false → AllByRecursion (λ t. IsTrue (is_coded run t m)) (tokens run m)) stage.machines
 HasCodes run _ stage = Unit {0}
 
--- a Done of the stage may come
+-- a Done of the stage may come: it is begun, and its commands have their Codes
 pub record MayDone (run : Run) (stage : ℕ) : Type 0 where
   pub begun : begun run.log ≡ Some stage
   pub codes : HasCodes run (stage_at (stages_of run) stage).kind (stage_at (stages_of run) stage)
@@ -159,7 +159,7 @@ MaySkipIn StageKind.FinalSync machines machine = machine ≡ all
 MaySkipIn StageKind.Stop machines machine = IsTrue (has machines machine)
 MaySkipIn _ machines machine = ⊥
 
--- a Skip may come: in a failover, of the begun stage, once
+-- a Skip may come: in a failover, of the begun stage, once since its Begin
 pub record MaySkip (run : Run) (stage machine : ℕ) : Type 0 where
   pub failover : op run ≡ Op.Failover
   pub begun : begun run.log ≡ Some stage
@@ -180,7 +180,7 @@ IsCause run machine by =
     (IsTrue (has (dependencies run machine) by) × IsTrue (is_left run by) × AllByRecursion (λ d. is_left run d ≡ true → by ≤ d) (dependencies run machine))
     ⊎ (AllByRecursion (λ d. is_left run d ≡ false) (dependencies run machine) × (by ≡ machine))
 
--- an Aside may come: in a failover, of a machine of the begun Start stage, once since its Begin, by its cause, ascending
+-- an Aside may come: in a failover, of a machine of the begun Start stage, once since its Begin, by its cause, and ascending since the later of that Begin and the last Attempt
 pub record MaySetAside (run : Run) (machine by stage : ℕ) : Type 0 where
   pub failover : op run ≡ Op.Failover
   pub begun : begun run.log ≡ Some stage

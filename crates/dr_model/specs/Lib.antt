@@ -22,5 +22,6 @@ pub mod Sound
 pub mod Calls
 pub mod Phases
 pub mod Images
+pub mod Marks
 pub mod Changes
 pub mod Backing

@@ -1,8 +1,8 @@
--- How many bytes of the journal a command needs: as much as its records can take at most, gates and lengths with them.
+-- How many bytes of the journal a command needs: as much as its records can take at most, with the gate and the length before each.
 use Rattle.std.specs.Prelude.{ℕ, ◌+◌, ◌*◌, ◌^◌, ◌<◌, Bool, true, false, List, length, sum_by, Option, Some, None}
 use Rattle.dr_model.specs.Types.{Op, Callout, Step, PlanMachine, Plan}
 
--- the lists of a plan that was read are far shorter: its numbers have four bytes
+-- a plan has fewer than 2 ^ 32 groups, pairs, machines and steps, as each plan that was read has
 pub record HasShortLists (plan : Plan) : Type 0 where
   pub groups : length plan.groups < 2 ^ 32
   pub pairs : length plan.pairs < 2 ^ 32
@@ -39,7 +39,7 @@ commands_of Op.Migrate plan = plan_commands plan
 commands_of Op.Failover plan = plan_commands plan
 commands_of Op.Reprotect plan = 0
 
--- room for the skips and asides of a failover of so many machines
+-- room for the Skips and Asides of a failover of so many machines, and for their numbers in its Finish
 abbrev pub failover_room : Op → ℕ → ℕ
 failover_room Op.Testing machines = 0
 failover_room Op.Cleanup machines = 0
@@ -51,11 +51,11 @@ failover_room Op.Reprotect machines = 0
 abbrev pub walk_need : Plan → ℕ → Op → ℕ
 walk_need plan stages op = 28 * stages + 23 * commands_of op plan + failover_room op (length plan.machines) + 20
 
--- the Start of a run under an id of this length
+-- the body of a run's Start under an id of this length
 abbrev pub start_need : Plan → ℕ → ℕ
 start_need plan id = 28 + id + 4 * length plan.groups + 21 * length plan.pairs
 
--- a run of so many stages: a fresh one with its Start, a resumed one with an Attempt
+-- a run that has so many stages: a fresh one with its Start, a resumed one with an Attempt
 abbrev pub run_need : Plan → ℕ → Op → (id : ℕ) → (fresh : Bool) → ℕ
 run_need plan stages op id true = 5 + start_need plan id + walk_need plan stages op
 run_need plan stages op id false = 5 + 13 + walk_need plan stages op

@@ -24,7 +24,7 @@ abbrev pub least_stage : (ℕ → Stage → Bool) → ℕ → List Stage → Opt
 least_stage test n [] = None
 least_stage test n (stage ∷ stages) = if test n stage then Some n else least_stage test (n + 1) stages
 
--- whether a stage is to be worked once more: after an Attempt, a done Start stage with machines that are left, which wasn't begun since
+-- whether a stage is to be worked once more: a done Start stage with machines that are left, which wasn't begun since the last Attempt, where there is one
 abbrev pub is_worked_again : Run → ℕ → Stage → Bool
 is_worked_again run n stage =
     list_any is_attempt run.log && same_kind stage.kind StageKind.Start && is_done run.log n && list_any (is_left run) stage.machines && not (begun_since_attempt run.log n)

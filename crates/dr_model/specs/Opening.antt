@@ -21,7 +21,7 @@ pub record IsOpeningPair (protected : Side) (pair : Pair) : Type 0 where
   pub line : (at (other protected) pair.content).line ≡ (at protected pair.content).line
   pub behind : (at (other protected) pair.content).writes ≤ (at protected pair.content).writes
 
--- ready outside a bubble, wherever
+-- ready outside a bubble, in any placement
 abbrev pub IsInService : Post → Type 0
 IsInService Placeholder = ⊥
 IsInService (Off placed) = ⊥

@@ -53,7 +53,7 @@ made_post StageKind.Stop wanted x = stopped x
 made_post StageKind.Clear wanted x = Post.Placeholder
 made_post _ wanted x = x
 
--- what a failed start may leave
+-- what a failed start may leave of a post besides the machine ready as wanted: a placeholder where it was one, and, unless it was ready, the machine off or on as wanted
 abbrev pub start_leaves : Placed → Post → List Post
 start_leaves wanted Post.Placeholder = Post.Placeholder ∷ Post.Off wanted ∷ Post.On wanted ∷ []
 start_leaves wanted (Post.Off placed) = Post.Off wanted ∷ Post.On wanted ∷ []

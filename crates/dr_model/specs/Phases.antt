@@ -1,4 +1,4 @@
--- The frames and posts of a group whose runs are all finished, and the posts under a run.
+-- The frames and posts of a group whose last run is finished, or that had none, and the posts under a run.
 use Rattle.std.specs.Prelude.{◌≡◌, ℕ, ◌⊎◌, Bool, true, false, List, [], ◌∷◌, None, IsTrue}
 use Rattle.dr_model.specs.Types.{Side, Link, Op, Placed, Post, Phase, GroupState}
 use Rattle.dr_outside.specs.Pairs.{Frame}
@@ -9,14 +9,14 @@ use Rattle.dr_model.specs.Meaning.{is_left}
 use Rattle.dr_model.specs.Outcomes.{IsAsWanted}
 use Rattle.dr_model.specs.Runs.{Run, is_finished}
 
--- a frame split to the other side, and writable there
+-- a frame from the protected side, split, writable at the other side, without snapshot
 pub record IsRecovered (protected : Side) (y : Frame) : Type 0 where
   pub source : y.source ≡ protected
   pub link : y.link ≡ Link.Split
   pub written : at (other protected) y.writable ≡ true
   pub none : y.snapshot ≡ None
 
--- a frame in each phase: in phase ready exactly the opening one, and under a test the same but for the snapshot
+-- a frame in each phase: in phase ready exactly the opening one, in phase tested the same but for the snapshot
 abbrev pub InPhase : Side → Phase → Frame → Type 0
 InPhase protected Phase.Ready y = y ≡ opening_frame protected
 InPhase protected Phase.Tested y = record y { snapshot = None } ≡ opening_frame protected
@@ -45,7 +45,7 @@ IsInTest (Post.On placed) = ⊥
 IsInTest (Post.Off placed) = ⊥
 IsInTest Post.Placeholder = ⊥
 
--- A post of a machine in each phase, where `home` tells whether it is that of the protected side. A failover that was closed may have left the machine.
+-- A post of a machine in each phase, where `home` tells whether it is that of the protected side. A failover may have left the machine.
 abbrev pub PostInPhase : (left : Type 0) → Phase → (home : Bool) → Post → Type 0
 PostInPhase left Phase.Ready true y = IsInService y ⊎ left
 PostInPhase left Phase.Ready false y = y ≡ Post.Placeholder

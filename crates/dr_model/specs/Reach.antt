@@ -1,4 +1,4 @@
--- What an open run may have made of a frame or a post so far.
+-- What a run that isn't finished, open or taken over, may have made of a frame or a post so far.
 use Rattle.std.specs.Prelude.{◌≡◌, ℕ, Bool, ◌&&◌, not, List, [], ◌∷◌}
 use Rattle.std.specs.Bool.{MatchBool}
 use Rattle.dr_model.specs.Types.{Side, Op, Placed, Post, StageKind, Stage}
@@ -33,7 +33,7 @@ abbrev pub side_of_clear : Op → (old : Side) → Side
 side_of_clear Op.Cleanup old = other old
 side_of_clear _ old = old
 
--- the side at which a stage works machines: it starts them at the new side, and stops them at the old one
+-- the side at which a stage works machines: it starts them at the new side, stops them at the old one, and removes them as above
 abbrev pub side_of_wave : Op → (old : Side) → StageKind → Side
 side_of_wave op old StageKind.Start = other old
 side_of_wave op old StageKind.Clear = side_of_clear op old

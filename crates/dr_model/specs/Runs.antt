@@ -21,7 +21,7 @@ pub record Run : Type 0 where
   pub start : StartRow
   pub estate : Estate
   pub plan : Plan
-  -- the protected side of its groups when it started
+  -- its old side: the protected side of its groups when it started
   pub old : Side
   -- its records after the Start, newest first
   pub log : List Record
@@ -38,7 +38,7 @@ number run = run.start.run
 abbrev pub op : Run → Op
 op run = run.start.op
 
--- the recovery side when it started
+-- its new side: the recovery side when it started
 abbrev pub new : Run → Side
 new run = other run.old
 
@@ -46,7 +46,7 @@ new run = other run.old
 abbrev pub stages_of : Run → List Stage
 stages_of run = stages run.plan run.start.op run.start.forced
 
--- whether it holds a group: whether its plan has the group
+-- whether it holds a group: its Start names the group
 abbrev pub holds : ℕ → Run → Bool
 holds group run = has run.start.groups group
 
@@ -82,7 +82,7 @@ protects (Some row) = row.protects
 abbrev pub named_side : Estate → ℕ → Side
 named_side estate group = protects (slice_get estate.groups group)
 
--- a group's state after these runs, newest first: an open run leaves it as it was
+-- a group's state after these runs, newest first: one that isn't finished leaves it as it was
 abbrev pub group_state : Estate → ℕ → List Run → GroupState
 group_state estate group [] = record { protected = named_side estate group; phase = Phase.Ready; plan = 0 }
 group_state estate group (run ∷ earlier) =
@@ -160,7 +160,7 @@ abbrev pub root_number : Op → StartRow → ℕ
 root_number Op.Failover row = if row.over == 0 then row.run else row.over
 root_number _ row = row.run
 
--- a run's root, by which its tokens and the lines of its splits go
+-- a run's root: the number from which the tokens of its commands are made, and which the array is given at a split
 abbrev pub root : Run → ℕ
 root run = root_number (op run) run.start
 

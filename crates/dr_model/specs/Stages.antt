@@ -33,7 +33,7 @@ steps_before priority number (step ∷ steps) =
 abbrev pub start_priority : Plan → ℕ → List Stage
 start_priority plan priority = steps_before priority 1 plan.steps ++ map (wave_stage StageKind.Start) (waves_at plan.machines priority)
 
--- start-up, the same for all operations: the priorities from 1 to 5
+-- start-up, the same for all operations that start machines: the priorities from 1 to 5
 abbrev pub start_up : Plan → List Stage
 start_up plan = flat_map (start_priority plan) priorities
 
@@ -62,7 +62,7 @@ stages plan Op.Reprotect forced =
 abbrev pub has : List ℕ → ℕ → Bool
 has numbers n = list_any (λ x. x == n) numbers
 
--- no stage: what a number beyond the last stage stands for
+-- no stage: what stands where no stage has a number
 abbrev pub no_stage : Stage
 no_stage = array_stage StageKind.Prompt
 

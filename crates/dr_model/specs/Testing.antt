@@ -32,7 +32,7 @@ pub record IsTestedPair (run : ℕ) (old new : Pair) : Type 0 where
 abbrev pub in_bubble : Placement → Placed
 in_bubble place = record { place = place; bubble = true }
 
--- a machine after a finished test, of which this side is the recovery side: ready there as wanted, and otherwise as it was
+-- a machine without commands after a finished test, of which this side is the recovery side: ready there as wanted, and otherwise as it was
 pub record IsTestedMachine (recovery : Side) (wanted : Placed) (old new : PortState) : Type 0 where
   pub ready : at recovery new.post ≡ Ready wanted
   pub protected : at (other recovery) new.post ≡ at (other recovery) old.post

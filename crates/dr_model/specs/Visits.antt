@@ -59,6 +59,6 @@ begun log = open_stage (visits log)
 abbrev pub all : ℕ
 all = 4294967295
 
--- whether a machine, or all pairs, were skipped in a stage since its last Begin
+-- whether a machine, or all pairs, were skipped or set aside in a stage since its last Begin
 abbrev pub is_skipped : List Record → ℕ → ℕ → Bool
 is_skipped log stage machine = is_excused machine (last_visit stage log)

@@ -1,7 +1,7 @@
 //! Laws of the definitions. Each stands as the contract of a function that does nothing. A list of
 //! records that is lawful is that of a journal behind its Estate.
 
-ghost use Rattle.std.specs.Prelude.{◌≡◌, ◌≢◌, ◌↔◌, ◌<◌, ◌⊎◌, ℕ, Bool, true, false, List, [], ◌∷◌, Some, None, IsSomeAnd, IfSome, Contains, filter, map, slice_get, take};
+ghost use Rattle.std.specs.Prelude.{◌≡◌, ◌≢◌, ◌↔◌, ◌<◌, ◌⊎◌, ℕ, Bool, true, false, List, [], ◌∷◌, Option, Some, None, IsSomeAnd, IfSome, Contains, filter, map, slice_get, take};
 ghost use Rattle.std.specs.List.{list_any, AllByRecursion};
 ghost use Rattle.dr_base.specs.Sides.{same_side};
 ghost use Rattle.dr_disk.specs.Disk.{Follows};
@@ -10,24 +10,25 @@ ghost use Rattle.dr_groups.specs.Groups.{IsPairOf, IsMachineOf};
 ghost use Rattle.dr_outside.specs.BySide.{at};
 ghost use Rattle.dr_outside.specs.declared.pair.Half.{Half as HalfValue};
 ghost use Rattle.dr_outside.specs.Arrays.{is_listed, IsWrong};
+ghost use Rattle.dr_outside.specs.Commands.{HasTokensOnce, RunsOnce};
 ghost use Rattle.dr_outside.specs.Pairs.{Drift, Made, Frame, frame_of, is_fit};
-ghost use Rattle.dr_model.specs.Types.{Side as SideValue, Op as OpValue, Pair, Post as PostValue, Placed as PlacedValue, Estate as EstateValue, Plan as PlanValue, PlanMachine as MachineValue, ArrayCall, StageKind as KindValue, Record as RecordValue, StartRow};
+ghost use Rattle.dr_model.specs.Types.{Side as SideValue, Op as OpValue, Phase as PhaseValue, Pair, Post as PostValue, Placed as PlacedValue, Estate as EstateValue, Plan as PlanValue, PlanMachine as MachineValue, ArrayCall, StageKind as KindValue, Kept as KeptValue, Record as RecordValue, StartRow};
 ghost use Rattle.dr_model.specs.Testing.{IsTestedPair, with_snapshot};
-ghost use Rattle.dr_model.specs.Opening.{IsOpeningPair};
+ghost use Rattle.dr_model.specs.Opening.{opening_frame, IsOpeningPair};
 ghost use Rattle.dr_model.specs.Worlds.{World, IsOpeningPost};
 ghost use Rattle.dr_model.specs.Stages.{has, stage_at};
 ghost use Rattle.dr_model.specs.Visits.{Visit, visits, begun, all};
 ghost use Rattle.dr_model.specs.Runs.{Setting, Run, named_side, number, op, new, holds, stages_of, is_finished, is_open, run_at, last_of_group, take_in, add_record, runs_of, group_state, root, as_taken};
-ghost use Rattle.dr_model.specs.Outcomes.{IsAsWanted};
-ghost use Rattle.dr_model.specs.Reach.{ReachFrame, ReachPost};
+ghost use Rattle.dr_model.specs.Outcomes.{PostOutcome, IsAsWanted};
+ghost use Rattle.dr_model.specs.Reach.{ReachFrame, works, ReachPost};
 ghost use Rattle.dr_model.specs.Meaning.{is_left, MeansFrame, MeansPost};
-ghost use Rattle.dr_model.specs.Next.{HasWalked};
+ghost use Rattle.dr_model.specs.Next.{least_undone, HasWalked};
 ghost use Rattle.dr_model.specs.Lawful.{tokens_from, MayFinish, MayCome, LawfulAfter};
 ghost use Rattle.dr_model.specs.Expected.{wanted, ExpectedFrame, ExpectedPost};
 ghost use Rattle.dr_model.specs.Fits.{FitsPair};
 ghost use Rattle.dr_model.specs.InOrder.{is_ready, is_aside, is_start_up, InOrder, keeps, is_ready_at_new, IsPairOfMachine, MayRun};
 ghost use Rattle.dr_model.specs.Journals.{Declares, IsSpelled, HasRecords, Tells, AllTell};
-ghost use Rattle.dr_model.specs.Calls.{call_of, Called, CallsPairs, IsLeftOut, IsForCall, IsWorked, CallsMachines, OnlyKeepsCodes};
+ghost use Rattle.dr_model.specs.Calls.{call_of, Called, CallsPairs, IsLeftOut, IsForCall, IsWorked, KeepsCodes, CallsMachines, OnlyKeepsCodes};
 ghost use Rattle.dr_model.specs.Sound.{IsKept, IsSoundBy, IsSound, AreSound};
 ghost use Rattle.dr_model.specs.Phases.{IsAtRest, AtRest, PostAtRest};
 ghost use Rattle.dr_model.specs.Backing.{HasRegularPlans, BacksPair, BacksDone, BacksStart, KeepsOrder, IsEntry, IsEarlier, IsPlain};
@@ -110,7 +111,7 @@ pub fn drift_keeps_fit()
     ensures { (p q : Pair) → Drift p q → (estate : EstateValue) (runs : List Run) (group k : ℕ) → FitsPair estate runs group k p → FitsPair estate runs group k q }
 {}
 
-/// A file that is sound with the outside stays so while pairs drift, and so do all images of a disk.
+/// A file that is sound with the outside stays so while pairs drift.
 pub fn drift_keeps_sound()
     ensures { (world : World) (pairs : ℕ → Pair) → ((k : ℕ) → Drift (world.pair k) (pairs k)) →
         (file : List ℕ) → IsSound world file → IsSound (record world { pair = pairs }) file }
@@ -152,12 +153,15 @@ pub fn taken_run_stays()
         IsSomeAnd (run_at run.start.over (runs_of setting records)) (λ taken. (taken.by ≡ number run) × (run.took ≡ Some (as_taken taken))) }
 {}
 
-/// A group whose runs are all finished has the frames of its state: in phase ready exactly the
-/// opening frame of the protected side.
+/// A group whose last run is finished, or that had none, has the frames of its state: in phase ready the opening
+/// frame of the protected side, which is expected, and no other.
 pub fn frames_by_state()
-    ensures { (setting : Setting) (records : List RecordValue) (group : ℕ) (y : Frame) → LawfulAfter setting [] records →
+    ensures only { (setting : Setting) (records : List RecordValue) (group : ℕ) (y : Frame) → LawfulAfter setting [] records →
         IsAtRest (filter (holds group) (runs_of setting records)) → ExpectedFrame setting.estate group (runs_of setting records) y →
         AtRest (group_state setting.estate group (runs_of setting records)) y }
+    ensures exactly { (setting : Setting) (records : List RecordValue) (group : ℕ) → LawfulAfter setting [] records →
+        IsAtRest (filter (holds group) (runs_of setting records)) → (group_state setting.estate group (runs_of setting records)).phase ≡ PhaseValue.Ready →
+        ExpectedFrame setting.estate group (runs_of setting records) (opening_frame (group_state setting.estate group (runs_of setting records)).protected) }
 {}
 
 /// And it has the posts of its state: in phase ready a placeholder at the other side and, unless a
@@ -184,21 +188,30 @@ pub fn finished_run_has_walked()
         run_at n (runs_of setting records) ≡ Some run → is_finished run ≡ true → HasWalked run }
 {}
 
+/// A run whose stages are all done may be finished, with a list of the machines that are left. So what
+/// is said of runs that may be finished holds of each whose stages are all done.
+pub fn done_run_may_be_finished()
+    ensures { (setting : Setting) (records : List RecordValue) (n : ℕ) (run : Run) → LawfulAfter setting [] records → HasRegularPlans setting →
+        run_at n (runs_of setting records) ≡ Some run → least_undone run ≡ None → (machines : List ℕ) × MayFinish run machines }
+{}
+
 /// Where a run may be finished, what it may have made of a frame is what it means.
 pub fn frames_are_meant()
     ensures { (setting : Setting) (records : List RecordValue) (n : ℕ) (run : Run) (machines : List ℕ) → LawfulAfter setting [] records →
         run_at n (runs_of setting records) ≡ Some run → MayFinish run machines → (x y : Frame) → ReachFrame run x y ↔ MeansFrame run x y }
 {}
 
-/// Where a run may be finished, what it may have made of a post of a machine that isn't left is what
-/// it means. At the old side of a failover that isn't forced it lies within that.
+/// Where a run may be finished, what it may have made of a post lies within what it means. The two are
+/// equal at the old side, and at the new side for a machine that isn't left. At the old side of a
+/// failover that isn't forced this rests on regular plans, in which a machine has one entry.
 pub fn posts_are_meant()
     ensures within { (setting : Setting) (records : List RecordValue) (n : ℕ) (run : Run) (machines : List ℕ) → LawfulAfter setting [] records →
         run_at n (runs_of setting records) ≡ Some run → MayFinish run machines → (m : MachineValue) → IsEntry run.plan m → (place : PlacedValue) (side : SideValue) (x y : PostValue) →
         ReachPost run m.machine side place x y → MeansPost run m.machine side place x y }
     ensures equal { (setting : Setting) (records : List RecordValue) (n : ℕ) (run : Run) (machines : List ℕ) → LawfulAfter setting [] records →
         run_at n (runs_of setting records) ≡ Some run → MayFinish run machines → (m : MachineValue) → IsEntry run.plan m → (place : PlacedValue) (side : SideValue) →
-        (same_side side run.old ≡ true → op run ≡ OpValue.Failover → run.start.forced ≡ true) → is_left run m.machine ≡ false → (x y : PostValue) →
+        (same_side side run.old ≡ true → op run ≡ OpValue.Failover → run.start.forced ≡ false → HasRegularPlans setting) →
+        (same_side side run.old ≡ false → is_left run m.machine ≡ false) → (x y : PostValue) →
         ReachPost run m.machine side place x y ↔ MeansPost run m.machine side place x y }
 {}
 
@@ -208,6 +221,26 @@ pub fn begin_keeps_posts()
     ensures { (setting : Setting) (records : List RecordValue) (n stage group machine : ℕ) (side : SideValue) (y : PostValue) → LawfulAfter setting [] records →
         MayCome setting (runs_of setting records) (RecordValue.Begin n stage) → ExpectedPost setting.estate group machine side (runs_of setting records) y →
         ExpectedPost setting.estate group machine side (add_record setting (runs_of setting records) (RecordValue.Begin n stage)) y }
+{}
+
+/// A lawful Begin leaves each expected frame expected. So a pair whose frame was as the runs allow before
+/// the record is so after it, however other pairs and machines stand.
+pub fn begin_keeps_frames()
+    ensures { (setting : Setting) (records : List RecordValue) (n stage group : ℕ) (y : Frame) → LawfulAfter setting [] records →
+        MayCome setting (runs_of setting records) (RecordValue.Begin n stage) → ExpectedFrame setting.estate group (runs_of setting records) y →
+        ExpectedFrame setting.estate group (add_record setting (runs_of setting records) (RecordValue.Begin n stage)) y }
+{}
+
+/// A lawful Finish leaves each expected frame expected, and each expected post of a machine of the group. So
+/// each pair and machine that stood as the runs allow does so after the record, however others stand.
+pub fn finish_keeps_expected()
+    ensures frames { (setting : Setting) (records : List RecordValue) (n moment group : ℕ) (machines : List ℕ) (y : Frame) → LawfulAfter setting [] records →
+        MayCome setting (runs_of setting records) (RecordValue.Finish n moment machines) → ExpectedFrame setting.estate group (runs_of setting records) y →
+        ExpectedFrame setting.estate group (add_record setting (runs_of setting records) (RecordValue.Finish n moment machines)) y }
+    ensures posts { (setting : Setting) (records : List RecordValue) (n moment group machine : ℕ) (machines : List ℕ) (side : SideValue) (y : PostValue) → LawfulAfter setting [] records →
+        HasRegularPlans setting → MayCome setting (runs_of setting records) (RecordValue.Finish n moment machines) → IsMachineOf setting.estate group machine →
+        ExpectedPost setting.estate group machine side (runs_of setting records) y →
+        ExpectedPost setting.estate group machine side (add_record setting (runs_of setting records) (RecordValue.Finish n moment machines)) y }
 {}
 
 /// A lawful Attempt, Begin, Skip, Aside or Answer keeps the outside sound, and so does a Code that is
@@ -248,6 +281,15 @@ pub fn call_keeps_fit()
         last_of_group group (runs_of setting records) ≡ Some run → is_finished run ≡ false → begun run.log ≡ Some stage →
         FitsPair setting.estate (runs_of setting records) group k p → Called run (stage_at (stages_of run) stage).kind p q →
         FitsPair setting.estate (runs_of setting records) group k q }
+{}
+
+/// A call of the begun stage at one machine, Ok or Failed, leads from an expected post to an expected one.
+/// So a machine that stood as the runs allow does so after the call, however others stand.
+pub fn machine_call_keeps_post()
+    ensures { (setting : Setting) (records : List RecordValue) (group machine : ℕ) (side : SideValue) (run : Run) (stage : ℕ) (y z : PostValue) → LawfulAfter setting [] records →
+        last_of_group group (runs_of setting records) ≡ Some run → is_finished run ≡ false → begun run.log ≡ Some stage →
+        works run (stage_at (stages_of run) stage) machine side ≡ true → ExpectedPost setting.estate group machine side (runs_of setting records) y →
+        PostOutcome (stage_at (stages_of run) stage).kind (wanted group run machine) y z → ExpectedPost setting.estate group machine side (runs_of setting records) z }
 {}
 
 /// A call of an open run's begun stage, Ok or Failed, keeps the outside sound, whichever of its pairs
@@ -363,5 +405,13 @@ pub fn wave_machines_may_run()
 /// is started anew may be so.
 pub fn changes_keep_order()
     ensures { (old now : World) (runs : List Run) →
-        ((group : ℕ) (run : Run) → last_of_group group runs ≡ Some run → AllByRecursion (λ h. last_of_group h runs ≡ Some run) run.start.groups → is_start_up (op run) ≡ true → KeepsOrder old now runs run) → InOrder old runs → InOrder now runs }
+        ((group : ℕ) (run : Run) → last_of_group group runs ≡ Some run → AllByRecursion (λ h. last_of_group h runs ≡ Some run) run.start.groups → is_start_up (op run) ≡ true → KeepsOrder old now run) → InOrder old runs → InOrder now runs }
+{}
+
+/// A command that runs once leaves each token kept once, and no code that was kept before is lost.
+pub fn commands_keep_tokens_once()
+    ensures once { (side : Option SideValue) (token : ℕ) (name : List ℕ) (old now : List KeptValue) (code : ℕ) → RunsOnce side token name old now code →
+        HasTokensOnce old → HasTokensOnce now }
+    ensures keeps { (side : Option SideValue) (token : ℕ) (name : List ℕ) (old now : List KeptValue) (code : ℕ) → RunsOnce side token name old now code →
+        KeepsCodes old now }
 {}

@@ -273,9 +273,7 @@ pub fn stages(alloc: Global, plan: &Plan, op: Op, forced: bool) -> Result<Vec<St
     requires { length plan.now.steps < 2 ^ 32 }
     ensures { IfOk result (λ list. list.items ≡ stages plan.now op forced) }
 {
-    let Ok(waves) = waves(alloc, plan) else {
-        return Err(NoMemory);
-    };
+    let waves = waves(alloc, plan)?;
     match stages_of(alloc, plan, &waves, op, forced) {
         Ok(list) => Ok(list),
         Err(_) => Err(NoMemory),

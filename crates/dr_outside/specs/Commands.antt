@@ -8,6 +8,11 @@ abbrev pub code_of : List Kept → ℕ → Option ℕ
 code_of [] token = None
 code_of (kept ∷ rest) token = if kept.token == token then Some kept.code else code_of rest token
 
+-- each token is kept once
+abbrev pub HasTokensOnce : List Kept → Type 0
+HasTokensOnce [] = Unit {0}
+HasTokensOnce (kept ∷ rest) = (code_of rest kept.token ≡ None) × HasTokensOnce rest
+
 -- one more code is kept, with what its call was given
 abbrev pub Keeps : Option Side → ℕ → List ℕ → List Kept → List Kept → ℕ → Type 0
 Keeps side token name old new code = new ≡ old ++ record { token = token; code = code; name = name; side = side } ∷ []

@@ -12,7 +12,7 @@ use Rattle.dr_outside.specs.declared.array.ArrayCall.{ArrayCall}
 use Rattle.dr_outside.specs.declared.array.ArrayCall.TheVariants.{Sync, TestStart, TestStop, Prepare, Failover, Reverse}
 use Rattle.dr_outside.specs.BySide.{at, put}
 
--- a pair without what production and replication write: of the snapshot, its run
+-- a pair without its contents: of the snapshot, its run
 pub record Frame : Type 0 where
   pub source : Side
   pub link : Link
@@ -54,7 +54,7 @@ pub record Follows (old source new : Content) : Type 0 where
   pub at_least : old.writes ≤ new.writes
   pub at_most : new.writes ≤ source.writes
 
--- what may become of a pair by itself: production writes on a writable side, and a live target follows its source
+-- what may become of a pair by itself: production writes on a writable side, and a live target follows its source; nothing else of it changes, its snapshot neither
 pub record Drift (old new : Pair) : Type 0 where
   pub frame : frame_of new ≡ frame_of old
   pub snapshot : new.snapshot ≡ old.snapshot

@@ -9,11 +9,17 @@ use dr_base::Side;
 /// A call on a list of pairs.
 #[derive(Clone, Copy, Debug, PartialEq, Eq)]
 pub enum ArrayCall {
+    /// Replicate.
     Sync,
+    /// Take snapshots for this run.
     TestStart(u32),
+    /// Remove the snapshots.
     TestStop,
+    /// Make the sources read-only.
     Prepare,
+    /// Split, with this number as the line of what follows.
     Failover(u32),
+    /// Replicate the other way.
     Reverse,
 }
 
@@ -22,7 +28,7 @@ pub enum ArrayCall {
 pub enum ArrayFail {
     /// It failed at this side.
     Failed(Side),
-    /// This pair isn't as the call needs it, but its target's half is so.
+    /// This pair isn't as the call needs it; its target shows this half.
     Wrong(u32, Half),
 }
 
@@ -85,7 +91,7 @@ pub trait Array {
         ensures step { tells → ArrayStep Prepare list.now (state self.old) (state self.new) result };
 
     /// Splits these live pairs and makes their targets, which aren't, writable: each begins the
-    /// line of this run. The target may fail.
+    /// line of this number, with what it has as base. The target may fail.
     fn failover(&mut self, run: u32, list: &[u32]) -> Result<(), ArrayFail>
         requires { IsPairList (state self.old).count list.now }
         ensures listed { NamesListed list.now result }
@@ -93,10 +99,27 @@ pub trait Array {
         ensures step { tells → ArrayStep (Failover run) list.now (state self.old) (state self.new) result };
 
     /// Makes the targets of these split pairs, where they alone are writable, the sources of live
-    /// pairs. Either side may fail.
+    /// pairs; the former source falls back to what the line began with. Either side may fail.
     fn reverse(&mut self, list: &[u32]) -> Result<(), ArrayFail>
         requires { IsPairList (state self.old).count list.now }
         ensures listed { NamesListed list.now result }
         ensures cause { ArrayCause (state self.old) (state self.new) result }
         ensures step { tells → ArrayStep Reverse list.now (state self.old) (state self.new) result };
+}
+
+/// Makes this call of an array on a list.
+pub fn call_array<A: Array>(array: &mut A, call: ArrayCall, list: &[u32]) -> Result<(), ArrayFail>
+    requires { IsPairList (A.state array.old).count list.now }
+    ensures listed { NamesListed list.now result }
+    ensures cause { ArrayCause (A.state array.old) (A.state array.new) result }
+    ensures step { A.tells → ArrayStep call list.now (A.state array.old) (A.state array.new) result }
+{
+    match call {
+        ArrayCall::Sync => array.sync(list),
+        ArrayCall::TestStart(run) => array.test_start(run, list),
+        ArrayCall::TestStop => array.test_stop(list),
+        ArrayCall::Prepare => array.prepare(list),
+        ArrayCall::Failover(run) => array.failover(run, list),
+        ArrayCall::Reverse => array.reverse(list),
+    }
 }

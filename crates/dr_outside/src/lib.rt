@@ -15,13 +15,13 @@ mod port;
 mod runner;
 mod sides;
 
-pub use array::{Array, ArrayCall, ArrayFail};
+pub use array::{Array, ArrayCall, ArrayFail, call_array};
 pub use clock::Clock;
 pub use decimals::read_decimal;
 pub use exit_codes::exit_code;
 pub use machine::{Kept, Placed, PortCall, PortFail, Post};
 pub use pair::{Content, Half, Link, Pair, Snapshot};
-pub use pair_list::{first_unfit, make_all, target_half};
+pub use pair_list::{first_unfit, is_pair_list, make_all, target_half};
 pub use plain_array::PlainArray;
 pub use plain_port::PlainPort;
 pub use port::Port;

@@ -80,9 +80,13 @@ impl Kept {
 /// A call that changes a post.
 #[derive(Clone, Copy, Debug, PartialEq, Eq)]
 pub enum PortCall {
+    /// Register the machine there.
     Register(Placed),
+    /// Turn it on, and wait until it answers.
     Start,
+    /// Turn it off.
     Stop,
+    /// Take it from the inventory.
     Unregister,
 }
 
@@ -91,7 +95,7 @@ pub enum PortCall {
 pub enum PortFail {
     /// It failed.
     Failed,
-    /// The post isn't as the call needs it, but so.
+    /// The post isn't as the call needs it: it is this.
     Wrong(Post),
     /// The command ran before, with this code.
     Ran(u8),

@@ -17,7 +17,7 @@ pub enum Link {
 /// the line before.
 #[derive(Clone, Copy, Debug, PartialEq, Eq)]
 pub struct Content {
-    /// The run that began the line; 0 at first.
+    /// The number that the split which began the line was given; 0 at first.
     pub line: u32,
     pub base: u64,
     pub writes: u64,

@@ -1,9 +1,21 @@
-ghost use Rattle.std.specs.Prelude.{◌≡◌, ℕ, ◌<◌, true, length, MatchOption, if◌then◌else◌};
+ghost use Rattle.std.specs.Prelude.{◌≡◌, ◌↔◌, ℕ, ◌<◌, true, IsTrue, length, MatchOption, if◌then◌else◌};
 ghost use Rattle.dr_outside.specs.Pairs.{is_fit, made, half, target};
 ghost use Rattle.dr_outside.specs.Arrays.{is_listed, IsPairList, IsFirstUnfit};
 ghost use Rattle.dr_outside.specs.PlainArrays.{pair_at};
 
 use crate::{ArrayCall, Half, Pair};
+
+/// Whether a list may be given to an array of so many pairs: each is there, and they ascend.
+pub fn is_pair_list(count: u32, list: &[u32]) -> bool
+    ensures { IsTrue result ↔ IsPairList count list.now }
+{
+    for i in 0..list.len() {
+        if list[i] >= count || (i > 0 && list[i - 1] >= list[i]) {
+            return false;
+        }
+    }
+    true
+}
 
 /// The first pair of the list that isn't as the call needs it.
 pub fn first_unfit(call: ArrayCall, pairs: &[Pair], list: &[u32]) -> Option<u32>

@@ -11,7 +11,7 @@ use Rattle.dr_inventory.specs.declared.estate.PlanRow.{PlanRow}
 use Rattle.dr_inventory.specs.declared.estate.Estate.{Estate}
 use Rattle.dr_inventory.specs.Names.{first}
 use Rattle.dr_inventory.proofs.Empty.{front_empty, back_empty}
-use Rattle.dr_groups.specs.declared.lists.Members.{Members}
+use Rattle.dr_inventory.specs.declared.members.Members.{Members}
 use Rattle.dr_groups.specs.Marks.{ListsAscending}
 use Rattle.dr_groups.proofs.RowLaws.{found_same}
 use Rattle.dr_groups.proofs.UniqueLaws.{one_ascending}

@@ -13,7 +13,7 @@ use Rattle.dr_inventory.specs.declared.estate.Estate.{Estate}
 use Rattle.dr_inventory.specs.Names.{first, place, number, unknown, twice_in}
 use Rattle.dr_inventory.specs.Places.{number_in}
 use Rattle.dr_inventory.proofs.PlaceLaws.{first_filter}
-use Rattle.dr_groups.specs.declared.lists.Members.{Members}
+use Rattle.dr_inventory.specs.declared.members.Members.{Members}
 use Rattle.dr_plan.specs.Rows.{group_names, machine_names, machine_number, is_planned, is_priority}
 use Rattle.dr_plan.specs.Faults.{unknown_groups, groups_twice, named_machines, other_pairs, unknown_machines, bad_priorities, other_priorities, name_faults}
 use Rattle.dr_plan.specs.Lookups.{IsPlaces, number_and_priority}

@@ -17,7 +17,7 @@ use Rattle.dr_inventory.specs.declared.estate.Estate.{Estate}
 use Rattle.dr_inventory.specs.Names.{place, number}
 use Rattle.dr_inventory.proofs.Empty.{map_empty, front_empty, back_empty, kept_none, kept_rest}
 use Rattle.dr_inventory.proofs.PlaceLaws.{place_within}
-use Rattle.dr_groups.specs.declared.lists.Members.{Members}
+use Rattle.dr_inventory.specs.declared.members.Members.{Members}
 use Rattle.dr_groups.proofs.RowLaws.{contained_found, found_contained}
 use Rattle.dr_base.specs.declared.plan_fault.PlanFault.TheVariants.{UnknownMachine, OtherPriority}
 use Rattle.dr_plan.specs.declared.plan.PlanMachine.{PlanMachine}

@@ -15,7 +15,7 @@ use Rattle.dr_inventory.specs.Names.{first, place, number}
 use Rattle.dr_inventory.specs.Sound.{IsSound, AllBelow}
 use Rattle.dr_inventory.proofs.Empty.{map_empty, kept_none, kept_rest}
 use Rattle.dr_inventory.proofs.PlaceLaws.{place_within}
-use Rattle.dr_groups.specs.declared.lists.Members.{Members}
+use Rattle.dr_inventory.specs.declared.members.Members.{Members}
 use Rattle.dr_groups.specs.Marks.{ListsAscending}
 use Rattle.dr_groups.specs.Groups.{AreMembersOf}
 use Rattle.dr_groups.proofs.RowLaws.{device_below}

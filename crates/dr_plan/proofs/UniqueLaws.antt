@@ -14,7 +14,7 @@ use Rattle.dr_inventory.specs.declared.estate.Estate.{Estate}
 use Rattle.dr_inventory.specs.Names.{first, place, unknown, twice_in}
 use Rattle.dr_inventory.proofs.Empty.{map_empty, kept_none}
 use Rattle.dr_inventory.proofs.PlaceLaws.{place_within}
-use Rattle.dr_groups.specs.declared.lists.Members.{Members}
+use Rattle.dr_inventory.specs.declared.members.Members.{Members}
 use Rattle.dr_groups.proofs.RowLaws.{found_same}
 use Rattle.dr_plan.specs.declared.plan.Plan.{Plan}
 use Rattle.dr_plan.specs.Cycles.{IsOnCycle}

@@ -8,7 +8,7 @@ use Rattle.dr_inventory.specs.declared.estate.PlanMachineRow.{PlanMachineRow}
 use Rattle.dr_inventory.specs.declared.estate.PlanRow.{PlanRow}
 use Rattle.dr_inventory.specs.declared.estate.Estate.{Estate}
 use Rattle.dr_inventory.specs.Names.{first, unknown, twice_in}
-use Rattle.dr_groups.specs.declared.lists.Members.{Members}
+use Rattle.dr_inventory.specs.declared.members.Members.{Members}
 use Rattle.dr_groups.specs.Marks.{ListsAscending}
 use Rattle.dr_plan.specs.Cycles.{IsOnCycle}
 use Rattle.dr_plan.specs.Rows.{group_names, machine_number, is_planned, is_priority, priority_of, dependencies}

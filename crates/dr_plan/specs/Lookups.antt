@@ -8,7 +8,7 @@ use Rattle.dr_inventory.specs.declared.estate.StepRow.{StepRow}
 use Rattle.dr_inventory.specs.declared.estate.PlanRow.{PlanRow}
 use Rattle.dr_inventory.specs.declared.estate.Estate.{Estate}
 use Rattle.dr_inventory.specs.Names.{place}
-use Rattle.dr_groups.specs.declared.lists.Members.{Members}
+use Rattle.dr_inventory.specs.declared.members.Members.{Members}
 use Rattle.dr_plan.specs.declared.machines.Found.{Found}
 use Rattle.dr_plan.specs.declared.stop.Stop.{Stop}
 use Rattle.dr_plan.specs.declared.stop.Stop.TheVariants as stop

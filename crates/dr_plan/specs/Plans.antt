@@ -3,7 +3,7 @@ use Rattle.std.specs.Prelude.{ℕ, ◌≡◌, List, [], map, length, Some, slice
 use Rattle.dr_inventory.specs.declared.estate.StepRow.{StepRow}
 use Rattle.dr_inventory.specs.declared.estate.PlanRow.{PlanRow}
 use Rattle.dr_inventory.specs.declared.estate.Estate.{Estate}
-use Rattle.dr_groups.specs.declared.lists.Members.{Members}
+use Rattle.dr_inventory.specs.declared.members.Members.{Members}
 use Rattle.dr_plan.specs.declared.plan.PlanMachine.{PlanMachine}
 use Rattle.dr_plan.specs.declared.plan.Step.{Step}
 use Rattle.dr_plan.specs.declared.plan.Plan.{Plan}

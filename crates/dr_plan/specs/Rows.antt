@@ -5,7 +5,7 @@ use Rattle.dr_inventory.specs.declared.estate.PlanMachineRow.{PlanMachineRow}
 use Rattle.dr_inventory.specs.declared.estate.PlanRow.{PlanRow}
 use Rattle.dr_inventory.specs.declared.estate.Estate.{Estate}
 use Rattle.dr_inventory.specs.Names.{place, number}
-use Rattle.dr_groups.specs.declared.lists.Members.{Members}
+use Rattle.dr_inventory.specs.declared.members.Members.{Members}
 
 -- the names of the protection groups
 abbrev pub group_names : Estate → List (List ℕ)

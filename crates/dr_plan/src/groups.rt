@@ -7,7 +7,7 @@ ghost use Rattle.std.specs.BTreeMap.{get};
 ghost use Rattle.std.specs.BTreeSet.{contains};
 ghost use Rattle.dr_inventory.specs.Names.{first, twice_in};
 ghost use Rattle.dr_inventory.specs.Sound.{IsSound};
-ghost use Rattle.dr_groups.specs.declared.lists.Members.{Members as AnyMembers};
+ghost use Rattle.dr_inventory.specs.declared.members.Members.{Members as AnyMembers};
 ghost use Rattle.dr_plan.specs.Rows.{group_numbers};
 ghost use Rattle.dr_plan.specs.Lookups.{StopsBy, AreGroupsRight};
 

@@ -3,7 +3,7 @@
 ghost use Rattle.std.specs.Prelude.{◌≡◌, ℕ};
 ghost use Rattle.dr_base.specs.declared.plan_fault.PlanFault.{PlanFault};
 ghost use Rattle.dr_inventory.specs.declared.estate.Estate.{Estate};
-ghost use Rattle.dr_groups.specs.declared.lists.Members.{Members};
+ghost use Rattle.dr_inventory.specs.declared.members.Members.{Members};
 ghost use Rattle.dr_plan.specs.declared.plan.Plan.{Plan as PlanValue};
 ghost use Rattle.dr_plan.specs.Faults.{IsFirstFault, IsValid};
 ghost use Rattle.dr_plan.specs.Plans.{IsPlanOf};

@@ -15,8 +15,7 @@ use crate::marks::marks_of;
 use crate::places::{machine_names, number_of, numbers_of, places_of, row_names};
 use crate::stop::Stop;
 use dr_base::{Name, PlanFault, Rows};
-use dr_groups::Members;
-use dr_inventory::{Estate, PlanMachineRow, PlanRow};
+use dr_inventory::{Estate, Members, PlanMachineRow, PlanRow};
 use std::alloc::{AllocError, Global};
 use std::collections::BTreeMap;
 

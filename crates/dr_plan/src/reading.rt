@@ -21,8 +21,7 @@ use crate::positions::{first_bad_position, steps_of};
 use crate::stop::Stop;
 use crate::wave_lists::waves_in;
 use dr_base::{Name, PlanFault, Rows};
-use dr_groups::Members;
-use dr_inventory::{Estate, PlanMachineRow, PlanRow};
+use dr_inventory::{Estate, Members, PlanMachineRow, PlanRow};
 use std::alloc::{AllocError, Global};
 use std::collections::BTreeMap;
 

@@ -5,7 +5,7 @@ ghost use Rattle.dr_plan.specs.Waves.{above, machines_at, depths_in, wave_of, wa
 ghost use Rattle.dr_plan.specs.Lists.{items_of, waves_from};
 
 use crate::plan::{Plan, PlanMachine, Wave};
-use dr_base::Rows;
+use dr_base::{NoMemory, Rows};
 use std::alloc::{AllocError, Global};
 
 fn greater(a: usize, b: usize) -> usize
@@ -116,10 +116,12 @@ pub fn waves_in(alloc: Global, machines: &[PlanMachine]) -> Result<Vec<Wave>, Al
     Ok(waves)
 }
 
-/// The waves of a plan, by ascending priority and depth. There is none without machines. The error
-/// is want of memory.
-pub fn waves(alloc: Global, plan: &Plan) -> Result<Vec<Wave>, AllocError>
+/// The waves of a plan, by ascending priority and depth. There is none without machines.
+pub fn waves(alloc: Global, plan: &Plan) -> Result<Vec<Wave>, NoMemory>
     ensures { IfOk result (λ list. list.items ≡ waves_of plan.now) }
 {
-    waves_in(alloc, plan.machines.as_slice())
+    match waves_in(alloc, plan.machines.as_slice()) {
+        Ok(waves) => Ok(waves),
+        Err(_) => Err(NoMemory),
+    }
 }

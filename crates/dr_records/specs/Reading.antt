@@ -1,5 +1,4 @@
--- Reading records from left to right. A fault is how many bytes are left at the first place where
--- the bytes can't go on.
+-- Reading records from left to right. A fault is how many bytes are left at the first place where the bytes can't go on.
 use Rattle.std.specs.Prelude.{◌≡◌, ℕ, zero, suc, ◌-◌, ◌==◌, ◌&&◌, nat_lt, nat_le, Bool, if◌then◌else◌, List, [], ◌∷◌, length, take, drop, Result, Ok, Err}
 use Rattle.std.specs.Int.{Width, w16, w32, w64, byte_len, from_be_bytes}
 use Rattle.dr_base.specs.Names.{is_name}

@@ -12,5 +12,5 @@ mod writing;
 
 pub use decoding::decode;
 pub use record_fault::RecordFault;
-pub use records::{Record, StartPair, StartRow};
+pub use records::{ALL, Record, StartPair, StartRow};
 pub use writing::encode;

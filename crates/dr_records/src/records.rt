@@ -1,7 +1,11 @@
 use dr_base::{Name, Op, Rows};
 
+/// In a machine's place: all pairs of a skipped stage, or, of a command that ended, the runner.
+pub const ALL: u32 = 4294967295;
+
 /// What the journal tells. Runs, stages and steps count from 1, machines from 0 in the order of
-/// the estate's text, and 4294967295 in a machine's place stands for all of them.
+/// the estate's text, as plans, protection groups and pairs do; [`ALL`] stands in a machine's place for
+/// what isn't of one machine.
 #[derive(Debug, Drop, PartialEq, Eq)]
 pub enum Record {
     /// The estate's text came into force.
@@ -14,7 +18,7 @@ pub enum Record {
     Begin(u32, u32),
     /// A stage was done: run and stage.
     Done(u32, u32),
-    /// A failed call at the protected site was passed: run, stage, and machine or all.
+    /// What failed at the protected site was passed: run, stage, and machine or all.
     Skip(u32, u32, u32),
     /// A machine was set aside: run, machine, and the machine that it was set aside by.
     Aside(u32, u32, u32),

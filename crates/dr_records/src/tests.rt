@@ -1,7 +1,7 @@
 ghost use Rattle.std.specs.Prelude.{IfOk};
 ghost use Rattle.dr_records.specs.Spelling.{HasShortLists};
 
-use crate::{Record, RecordFault, StartPair, StartRow, decode, encode};
+use crate::{ALL, Record, RecordFault, StartPair, StartRow, decode, encode};
 use dr_base::{Name, NoMemory, Op, Rows};
 use std::alloc::{AllocError, Global};
 use std::test::Fail;
@@ -11,8 +11,6 @@ const START: [u8; 55] = [
     2, 0, 0, 0, 1, 1, 0, 0, 0, 0, 0, 0, 0, 0, 0, 0, 0, 0, 0, 0, 0, 0x03, 0xe8, 2, b't', b'1', 0, 1,
     0, 0, 0, 0, 0, 1, 0, 0, 0, 0, 1, 0, 0, 0, 0, 0, 0, 0, 0x64, 0, 0, 0, 0, 0, 0, 0, 0x5f,
 ];
-
-const ALL: u32 = 4294967295;
 
 fn start(alloc: Global, id: Name) -> Result<Record, AllocError>
     ensures { IfOk result HasShortLists }

@@ -32,6 +32,7 @@ impl<'a> Run<'a> {
         has(self.start.groups.as_slice(), group)
     }
 
+    /// Whether it has a Finish.
     pub fn is_finished(&self) -> bool
         ensures { result ≡ is_finished (run_of self.now) }
     {

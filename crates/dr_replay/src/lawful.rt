@@ -20,11 +20,8 @@ use crate::runs::{run_at, run_named};
 use crate::{Run, Walk};
 use dr_base::{NoMemory, Op};
 use dr_model::StageKind;
-use dr_records::Record;
+use dr_records::{ALL, Record};
 use std::alloc::Global;
-
-// The number that stands for all: all pairs in a Skip, the runner in a Code.
-const ALL: u32 = 4294967295;
 
 // What may be skipped in a stage: all pairs in Sync, Prepare and FinalSync, a machine of it in Stop.
 fn may_skip_in(kind: StageKind, machines: &[u32], machine: u32) -> bool

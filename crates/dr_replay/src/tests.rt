@@ -1,5 +1,6 @@
 //! The worked cases of journals.
 
+mod closing;
 mod failovers;
 mod following;
 mod journals;

@@ -17,7 +17,8 @@ pub struct Visit {
     pub stage: u32,
     /// Whether a Done followed it.
     pub done: bool,
-    /// The machines that its Skips and Asides name, in their order; 4294967295 stands for all pairs.
+    /// The machines that its Skips and Asides name, in their order; [`dr_records::ALL`] stands for
+    /// all pairs.
     pub excused: Vec<u32>,
 }
 

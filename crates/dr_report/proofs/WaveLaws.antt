@@ -6,7 +6,7 @@ use Rattle.dr_inventory.specs.declared.estate.Estate.{Estate}
 use Rattle.std.specs.List.{range_with_len}
 use Rattle.std.proofs.lemmas.List.{length-map}
 use Rattle.std.proofs.lemmas.List.FromFn.{length-range_with_len, get_or-range_with_len}
-use Rattle.dr_groups.specs.declared.lists.Members.{Members}
+use Rattle.dr_inventory.specs.declared.members.Members.{Members}
 use Rattle.dr_plan.specs.Rows.{is_held, group_numbers}
 use Rattle.dr_plan.specs.Plans.{IsPlanOf, plan_machine}
 use Rattle.dr_plan.specs.declared.plan.Plan.{Plan}

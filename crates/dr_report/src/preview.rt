@@ -116,9 +116,7 @@ pub fn preview_text(alloc: Global, estate: &Estate, plan: &Plan) -> Result<Vec<u
     requires { HoldsMachinesOf estate.now plan.now }
     ensures { IfOk result (λ text. text.items ≡ preview_text_of estate.now plan.now) }
 {
-    let Ok(waves) = waves(alloc, plan) else {
-        return Err(NoMemory);
-    };
+    let waves = waves(alloc, plan)?;
     let mut text = Vec::new(alloc);
     append_stages(&mut text, estate, plan.steps.as_slice(), &waves)?;
     Ok(text)

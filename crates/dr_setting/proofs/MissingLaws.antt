@@ -17,7 +17,7 @@ use Rattle.dr_base.specs.declared.placement.Placement.{Placement}
 use Rattle.dr_base.specs.declared.placement.Unmapped.{Unmapped}
 use Rattle.dr_inventory.specs.declared.estate.GroupRow.{GroupRow}
 use Rattle.dr_inventory.specs.declared.estate.Estate.{Estate}
-use Rattle.dr_groups.specs.declared.lists.Members.{Members}
+use Rattle.dr_inventory.specs.declared.members.Members.{Members}
 use Rattle.dr_mappings.specs.Placements.{place_of, placed, network_at, folder_at, pool_at, network_in}
 use Rattle.dr_setting.specs.Missing.{lacking, missing, IsHeldBy, Lacks, AreAllPlaced, IsFirstUnmapped, IsFirstOfGroup, IsFirstOfList, FirstBelow, IsFirstBelow, NoneBelow, lesser}
 

@@ -10,7 +10,7 @@ use Rattle.dr_base.specs.declared.plan_fault.PlanFault.{PlanFault}
 use Rattle.dr_base.specs.declared.plan_fault.PlanFault.TheVariants as of_plan
 use Rattle.dr_inventory.specs.declared.estate.PlanRow.{PlanRow}
 use Rattle.dr_inventory.specs.declared.estate.Estate.{Estate}
-use Rattle.dr_groups.specs.declared.lists.Members.{Members}
+use Rattle.dr_inventory.specs.declared.members.Members.{Members}
 use Rattle.dr_plan.specs.declared.plan.Plan.{Plan}
 use Rattle.dr_plan.specs.Faults.{IsFirstFault as IsFirstOfPlan}
 use Rattle.dr_plan.specs.Plans.{IsPlanOf}

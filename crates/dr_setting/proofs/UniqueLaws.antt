@@ -11,7 +11,7 @@ use Rattle.dr_inventory.specs.declared.estate.GroupRow.{GroupRow}
 use Rattle.dr_inventory.specs.declared.estate.PlanRow.{PlanRow}
 use Rattle.dr_inventory.specs.declared.estate.Estate.{Estate}
 use Rattle.dr_inventory.specs.Sound.{IsSound}
-use Rattle.dr_groups.specs.declared.lists.Members.{Members}
+use Rattle.dr_inventory.specs.declared.members.Members.{Members}
 use Rattle.dr_groups.proofs.RowLaws.{found_same}
 use Rattle.dr_groups.proofs.FaultLaws.{is_no_fault}
 use Rattle.dr_groups.proofs.UniqueLaws.{one_by_place, one_members, one_group_fault, split_within, shared_within}

@@ -7,7 +7,7 @@ use Rattle.dr_base.specs.declared.plan_fault.PlanFault.TheVariants.{BadPriority,
 use Rattle.dr_base.specs.declared.placement.Unmapped.{Unmapped}
 use Rattle.dr_inventory.specs.declared.estate.PlanRow.{PlanRow}
 use Rattle.dr_inventory.specs.declared.estate.Estate.{Estate}
-use Rattle.dr_groups.specs.declared.lists.Members.{Members}
+use Rattle.dr_inventory.specs.declared.members.Members.{Members}
 use Rattle.dr_groups.specs.Groups.{Passes, AreMembersOf, IsFirstFault as IsFirstGroupFault}
 use Rattle.dr_plan.specs.declared.plan.Plan.{Plan}
 use Rattle.dr_plan.specs.Faults.{IsFirstFault as IsFirstOfPlan, IsValid}

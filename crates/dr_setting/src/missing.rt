@@ -8,8 +8,7 @@ ghost use Rattle.dr_mappings.specs.Placements.{place_of};
 ghost use Rattle.dr_setting.specs.Missing.{AreAllPlaced, IsFirstOfGroup, IsFirstOfList, IsFirstUnmapped, lacking, lesser, missing};
 
 use dr_base::{Side, Unmapped};
-use dr_groups::Members;
-use dr_inventory::Estate;
+use dr_inventory::{Estate, Members};
 use dr_mappings::place;
 
 // The map that a machine lacks at a side.

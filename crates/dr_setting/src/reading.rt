@@ -12,8 +12,8 @@ ghost use Rattle.dr_setting.specs.Settings.{ArePlansOf, GroupsCause, IsFirstFaul
 use crate::missing::first_unmapped;
 use crate::setting::{Setting, SettingFault};
 use dr_base::{GroupFault, Name, PlanFault, Rows};
-use dr_groups::{Members, members};
-use dr_inventory::Estate;
+use dr_groups::members;
+use dr_inventory::{Estate, Members};
 use dr_plan::{Plan, read_plan};
 use std::alloc::Global;
 

@@ -1,5 +1,5 @@
 use dr_base::{GroupFault, Name, PlanFault, Rows, Unmapped};
-use dr_groups::Members;
+use dr_inventory::Members;
 use dr_plan::Plan;
 
 /// What the protection groups of an estate hold, and its plans.

@@ -19,7 +19,7 @@ use Rattle.dr_outside.specs.Arrays.{ArrayState, is_listed}
 use Rattle.dr_outside.specs.declared.machine.Post.TheVariants.{Placeholder, Ready}
 use Rattle.dr_outside.specs.Machines.{PortState}
 use Rattle.dr_model.specs.Opening.{AreOpeningMachines}
-use Rattle.dr_model.specs.StartUp.{InOrder, is_started}
+use Rattle.dr_model.specs.StartUp.{StartedInOrder, is_started}
 use Rattle.dr_model.specs.Testing.{DriftsButSnapshot}
 use Rattle.dr_testing.specs.declared.start_up.StartEnd.{StartEnd}
 use Rattle.dr_testing.specs.declared.start_up.StartEnd.TheVariants.{Done as AllDone, Failed, Refused}
@@ -102,7 +102,7 @@ module _ (estate : Estate) (plan : Plan) (testable : IsTestable estate plan) (wa
       ]
 
       -- what is so of waves is so of priorities and dependencies
-      in_order : ((i j : ℕ) → is_planned plan i ≡ true → is_planned plan j ≡ true → wave_of waves i < wave_of waves j → is_started (new j).post.b ≡ true → (new i).post.b ≡ Ready (wanted_at estate i)) → InOrder B (wanted_at estate) plan new
+      in_order : ((i j : ℕ) → is_planned plan i ≡ true → is_planned plan j ≡ true → wave_of waves i < wave_of waves j → is_started (new j).post.b ≡ true → (new i).post.b ≡ Ready (wanted_at estate i)) → StartedInOrder B (wanted_at estate) plan new
       in_order ready = record {
         dependencies = λ m k c started after.
             let shallower : IsShallower plan m.priority m.depth k = testable.ordered.dependencies m k c after in

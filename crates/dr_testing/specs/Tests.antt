@@ -23,7 +23,7 @@ use Rattle.dr_outside.specs.Arrays.{ArrayState, IsPairList, is_listed}
 use Rattle.dr_outside.specs.Machines.{PortState, machine_at}
 use Rattle.dr_model.specs.Codes.{bit, half_code, told_by_refusal}
 use Rattle.dr_model.specs.Opening.{AreOpeningPairs, AreOpeningMachines}
-use Rattle.dr_model.specs.StartUp.{InOrder}
+use Rattle.dr_model.specs.StartUp.{StartedInOrder}
 use Rattle.dr_model.specs.Testing.{DriftsButSnapshot, IsTestedPair, IsTestedMachine}
 use Rattle.dr_testing.specs.declared.start_up.StartEnd.{StartEnd}
 use Rattle.dr_testing.specs.declared.start_up.StartEnd.TheVariants.{Done as EndDone, Failed as EndFailed, Refused as EndRefused}
@@ -87,7 +87,7 @@ pub record KeepsMachines (plan : Plan) (old new : ℕ → PortState) : Type 0 wh
 -- at every exit: the plan's machines are placeholders at B or stand there as wanted, and where one was started, each of its dependencies and each machine of an earlier priority is ready
 pub record AreInOrder (estate : Estate) (plan : Plan) (machine : ℕ → PortState) : Type 0 where
   pub stand : (i : ℕ) → is_planned plan i ≡ true → StandsAsWanted (wanted_at estate i) (machine i).post.b
-  pub order : InOrder B (wanted_at estate) plan machine
+  pub order : StartedInOrder B (wanted_at estate) plan machine
 
 -- each machine of the plan is a placeholder at B
 abbrev pub ArePlaceholders : Plan → (ℕ → PortState) → Type 0

@@ -1,10 +1,9 @@
-//! Which record of a failover may come: what it skips, whom it sets aside, and what it takes over.
+//! Which record of a failover may come: what it skips, whom it sets aside, and which stages it works
+//! again.
 
-use super::setup::{
-    ALL, Case, first_wrong, machine, none, start, start_forced, three_plans, unlawful, work,
-};
+use super::setup::{Case, first_wrong, none, start, start_forced, three_plans, unlawful, work};
 use dr_base::Op;
-use dr_records::Record;
+use dr_records::{ALL, Record};
 use std::alloc::{AllocError, Global};
 use std::test::Fail;
 
@@ -52,17 +51,20 @@ fn skip_cases() -> [Case; 15] {
     ]
 }
 
-#[test]
-fn a_failover_skips_what_fails_at_the_old_side(rt: HostRuntime) -> Result<(), Fail> {
-    let alloc = rt.alloc();
+// The first record that may not come, and the first case that is otherwise.
+fn wrong_skip(alloc: Global) -> Result<[Option<usize>; 2], Fail> {
     let site = three_plans(alloc)?;
     let records = a_skipping_failover(alloc)?;
     let cases = skip_cases();
-    assert_eq!(rt; unlawful(alloc, &site, &records)?, None);
-    assert_eq!(rt;
+    Ok([
+        unlawful(alloc, &site, &records)?,
         first_wrong(alloc, &site, &records, cases.as_slice())?,
-        None
-    );
+    ])
+}
+
+#[test]
+fn a_failover_skips_what_fails_at_the_old_side(rt: HostRuntime) -> Result<(), Fail> {
+    assert_eq!(rt; wrong_skip(rt.alloc())?, [None, None]);
     Ok(())
 }
 
@@ -98,17 +100,20 @@ fn aside_cases() -> [Case; 12] {
     ]
 }
 
-#[test]
-fn a_machine_is_set_aside_once_and_by_its_cause(rt: HostRuntime) -> Result<(), Fail> {
-    let alloc = rt.alloc();
+// The first record that may not come, and the first case that is otherwise.
+fn wrong_aside(alloc: Global) -> Result<[Option<usize>; 2], Fail> {
     let site = three_plans(alloc)?;
     let records = an_incomplete_failover(alloc)?;
     let cases = aside_cases();
-    assert_eq!(rt; unlawful(alloc, &site, &records)?, None);
-    assert_eq!(rt;
+    Ok([
+        unlawful(alloc, &site, &records)?,
         first_wrong(alloc, &site, &records, cases.as_slice())?,
-        None
-    );
+    ])
+}
+
+#[test]
+fn a_machine_is_set_aside_once_and_by_its_cause(rt: HostRuntime) -> Result<(), Fail> {
+    assert_eq!(rt; wrong_aside(rt.alloc())?, [None, None]);
     Ok(())
 }
 
@@ -126,17 +131,19 @@ fn again_cases() -> [Case; 8] {
     ]
 }
 
+// The first case that is otherwise.
+fn wrong_begin(alloc: Global) -> Result<Option<usize>, Fail> {
+    let site = three_plans(alloc)?;
+    let records = an_incomplete_failover(alloc)?;
+    let cases = again_cases();
+    let wrong = first_wrong(alloc, &site, &records, cases.as_slice())?;
+    Ok(wrong)
+}
+
 #[test]
 fn stages_with_left_machines_are_worked_again_after_an_attempt(
     rt: HostRuntime,
 ) -> Result<(), Fail> {
-    let alloc = rt.alloc();
-    let site = three_plans(alloc)?;
-    let records = an_incomplete_failover(alloc)?;
-    let cases = again_cases();
-    assert_eq!(rt;
-        first_wrong(alloc, &site, &records, cases.as_slice())?,
-        None
-    );
+    assert_eq!(rt; wrong_begin(rt.alloc())?, None);
     Ok(())
 }

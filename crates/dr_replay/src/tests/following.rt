@@ -1,10 +1,10 @@
 //! Which record of a test may come: records of each kind that may, and like ones that may not.
 
 use super::setup::{
-    ALL, Case, NO_COMMANDS, first_wrong, name, none, plan_with, site_of, start, unlawful, work,
+    Case, NO_COMMANDS, first_wrong, name, none, plan_with, site_of, start, unlawful, work,
 };
 use dr_base::{Callout, Name, Op, Text};
-use dr_records::Record;
+use dr_records::{ALL, Record};
 use std::alloc::Global;
 use std::test::Fail;
 
@@ -26,11 +26,12 @@ fn a_test_with_commands(alloc: Global) -> Result<Vec<Record>, Fail> {
 }
 
 // The cases of the command's stage.
-fn command_cases() -> [Case; 9] {
+fn command_cases() -> [Case; 10] {
     [
         (5, Record::Code(1, 4294967297, ALL, 3), false),
         (6, Record::Code(1, 4294967297, ALL, 3), true),
         (6, Record::Code(1, 4294967297, 0, 3), false),
+        (6, Record::Code(2, 4294967297, ALL, 3), false),
         (6, Record::Code(1, 4294967296, ALL, 3), false),
         (6, Record::Code(1, 4294967298, ALL, 3), false),
         (6, Record::Code(1, 8589934593, ALL, 3), false),
@@ -56,23 +57,25 @@ fn machine_cases() -> [Case; 10] {
     ]
 }
 
-#[test]
-fn a_commands_code_comes_once_before_its_stage_is_done(rt: HostRuntime) -> Result<(), Fail> {
-    let alloc = rt.alloc();
+// The first record that may not come, and the first cases that are otherwise.
+fn wrong_code(alloc: Global) -> Result<[Option<usize>; 3], Fail> {
     let command = name(b"exit-3")?;
     let commands = [Some(command), None, Some(command), None];
-    let plan = plan_with(alloc, Callout::Command(command), commands)?;
-    let site = site_of(alloc, plan)?;
+    let site = site_of(
+        alloc,
+        plan_with(alloc, Callout::Command(command), commands)?,
+    )?;
     let records = a_test_with_commands(alloc)?;
-    assert_eq!(rt; unlawful(alloc, &site, &records)?, None);
-    assert_eq!(rt;
+    Ok([
+        unlawful(alloc, &site, &records)?,
         first_wrong(alloc, &site, &records, command_cases().as_slice())?,
-        None
-    );
-    assert_eq!(rt;
         first_wrong(alloc, &site, &records, machine_cases().as_slice())?,
-        None
-    );
+    ])
+}
+
+#[test]
+fn a_commands_code_comes_once_before_its_stage_is_done(rt: HostRuntime) -> Result<(), Fail> {
+    assert_eq!(rt; wrong_code(rt.alloc())?, [None, None, None]);
     Ok(())
 }
 
@@ -106,21 +109,20 @@ fn prompt_cases(ok: Name) -> [Case; 12] {
     ]
 }
 
-#[test]
-fn a_prompt_is_answered_once_and_then_begun(rt: HostRuntime) -> Result<(), Fail> {
-    let alloc = rt.alloc();
+// The first record that may not come, and the first case that is otherwise.
+fn wrong_answer(alloc: Global) -> Result<[Option<usize>; 2], Fail> {
     let text = Text::read(b"go").ok_or("a text")?;
     let site = site_of(alloc, plan_with(alloc, Callout::Prompt(text), NO_COMMANDS)?)?;
     let records = a_test_with_a_prompt(alloc)?;
-    let ok = name(b"ok")?;
-    let cases = prompt_cases(ok);
-    assert_eq!(rt; records.len(), 14);
-    assert_eq!(rt; unlawful(alloc, &site, &records)?, None);
-    assert_eq!(rt;
+    let cases = prompt_cases(name(b"ok")?);
+    Ok([
+        unlawful(alloc, &site, &records)?,
         first_wrong(alloc, &site, &records, cases.as_slice())?,
-        None
-    );
-    Ok(())
+    ])
 }
 
-// Runs of a plan of no group don't exclude each other, so that two can wait.
+#[test]
+fn a_prompt_is_answered_once_and_then_begun(rt: HostRuntime) -> Result<(), Fail> {
+    assert_eq!(rt; wrong_answer(rt.alloc())?, [None, None]);
+    Ok(())
+}

@@ -8,9 +8,6 @@ use dr_records::{Record, StartPair, StartRow};
 use std::alloc::{AllocError, Global};
 use std::test::Fail;
 
-/// In the place of a machine: all.
-pub const ALL: u32 = 4294967295;
-
 /// No commands of a machine.
 pub const NO_COMMANDS: [Option<Name>; 4] = [None, None, None, None];
 

@@ -1,13 +1,13 @@
 //! Sites and calls for tests.
 
-ghost use Rattle.std.specs.Prelude.{IsTrue};
 ghost use Rattle.dr_inventory.specs.Sound.{IsSound};
-ghost use Rattle.dr_outside.specs.Arrays.{IsPairList};
 
 use crate::{ArrayFault, SimArray, Write};
 use dr_base::{Name, Side};
 use dr_inventory::{Estate, read_estate};
-use dr_outside::{Array, ArrayCall, ArrayFail, Content, Half, Link, Snapshot};
+use dr_outside::{
+    Array, ArrayCall, ArrayFail, Content, Half, Link, Snapshot, call_array, is_pair_list,
+};
 use std::alloc::Global;
 use std::process::Abort;
 
@@ -75,30 +75,13 @@ pub fn opened(
     }
 }
 
-// Whether a list may be given to an array of so many pairs.
-fn is_pair_list(count: u32, list: &[u32]) -> bool
-    ensures { IsTrue result → IsPairList count list.now }
-{
-    for i in 0..list.len() {
-        if list[i] >= count || (i > 0 && list[i - 1] >= list[i]) {
-            return false;
-        }
-    }
-    true
-}
-
+// The answer of a call on a list.
 fn run(array: &mut SimArray, call: ArrayCall, list: &[u32]) -> Option<Result<(), ArrayFail>> {
-    if !is_pair_list(array.pairs(), list) {
-        return None;
+    if is_pair_list(array.pairs(), list) {
+        Some(call_array(array, call, list))
+    } else {
+        None
     }
-    Some(match call {
-        ArrayCall::Sync => array.sync(list),
-        ArrayCall::TestStart(run) => array.test_start(run, list),
-        ArrayCall::TestStop => array.test_stop(list),
-        ArrayCall::Prepare => array.prepare(list),
-        ArrayCall::Failover(run) => array.failover(run, list),
-        ArrayCall::Reverse => array.reverse(list),
-    })
 }
 
 fn read(array: &mut SimArray, i: u32, side: Side) -> Option<Result<Half, ArrayFail>> {

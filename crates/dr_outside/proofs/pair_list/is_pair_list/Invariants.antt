@@ -1,5 +1,5 @@
 use Rattle.std.proofs.Common.{ℕ, ◌+◌, ◌<◌, get_or}
-use Rattle.dr_sim.proofs.tests.samples.is_pair_list.Given as goal
+use Rattle.dr_outside.proofs.pair_list.is_pair_list.Given as goal
 
 abbrev pub invariant-loop-i : goal.invariant-loop-i
 invariant-loop-i l = record {
