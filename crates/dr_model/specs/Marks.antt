@@ -25,8 +25,9 @@ LastHasAll images [] = Unit {0}
 LastHasAll images (line ∷ []) = line.opened ≡ true → line.faulted ≡ false → IsKeptCount images line.mark
 LastHasAll images (line ∷ next ∷ lines) = LastHasAll images (next ∷ lines)
 
--- the marks of a call's lines, the first line first
-pub record HasMarks (old_images new_images : List ℕ → Type 0) (lines : List MarkedLine) : Type 0 where
+-- the marks of a call's lines, the first line first; a line has the text of a journal's fault only where the disk's count rose in the call
+pub record HasMarks (old_images new_images : List ℕ → Type 0) (rose : Type 0) (lines : List MarkedLine) : Type 0 where
   pub rising : NeverFall 0 lines
   pub each : AllByRecursion (FitsKept old_images new_images) lines
   pub last : LastHasAll new_images lines
+  pub cause : AllByRecursion (λ line. line.faulted ≡ true → rose) lines

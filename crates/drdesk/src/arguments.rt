@@ -1,5 +1,8 @@
 //! The words that the program is called with.
 
+ghost use Rattle.std.specs.Prelude.{◌≡◌, codes};
+ghost use Rattle.std.specs.Str.{IsUtf8};
+
 use dr_base::NoMemory;
 use std::alloc::Global;
 use std::env::{Env, FillError};
@@ -12,7 +15,10 @@ const LONGEST: usize = 64;
 const NO_WORD: &str = "?";
 
 // The word that these bytes are.
-fn word(bytes: &[u8]) -> &str {
+fn word(bytes: &[u8]) -> &str
+    ensures text { IsUtf8 bytes.now → result.now ≡ bytes.now }
+    ensures none { ¬ IsUtf8 bytes.now → result.now ≡ codes "?" }
+{
     match str::from_utf8(bytes) {
         Ok(word) => word,
         Err(_) => NO_WORD,
