@@ -24,8 +24,6 @@ mod sink;
 mod source;
 mod std_sink;
 mod std_source;
-#[cfg(test)]
-mod tests;
 mod text;
 
 pub use answer::{Answer, Long, Thing};

@@ -41,16 +41,13 @@ impl MemSink {
         ensures { IfOk result (λ sink. sink ≡
             record { taken = []; room = room; calls = 0; fails = fails.items; faults = 0 }) }
     {
-        match Vec::with_capacity(alloc, room) {
-            Ok(bytes) => Ok(MemSink {
-                bytes,
-                room,
-                calls: 0,
-                fails,
-                faults: 0,
-            }),
-            Err(_) => Err(NoMemory),
-        }
+        Ok(MemSink {
+            bytes: Vec::with_capacity(alloc, room)?,
+            room,
+            calls: 0,
+            fails,
+            faults: 0,
+        })
     }
 
     /// The bytes taken so far.

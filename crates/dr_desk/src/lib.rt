@@ -7,8 +7,6 @@ mod output;
 mod plans;
 mod room;
 mod telling;
-#[cfg(test)]
-mod tests;
 mod top_call;
 mod words;
 

@@ -6,8 +6,6 @@ mod changes;
 mod disk;
 mod file_disk;
 mod mem_disk;
-#[cfg(test)]
-mod tests;
 mod writes;
 
 pub use disk::{Disk, GREATEST_LIMIT};

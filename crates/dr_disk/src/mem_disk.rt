@@ -112,7 +112,7 @@ impl MemDisk {
           read_calls = 0;
         }) }
     {
-        MemDisk::with_memory(alloc, &bytes, limit, fuse).map_err(|_| NoMemory)
+        Ok(MemDisk::with_memory(alloc, &bytes, limit, fuse)?)
     }
 
     fn with_memory(
@@ -161,7 +161,7 @@ impl MemDisk {
             1 => &self.synced,
             _ => &self.torn,
         };
-        file.to_vec(alloc).map_err(|_| NoMemory)
+        Ok(file.to_vec(alloc)?)
     }
 
     /// How often `read_at` was called.

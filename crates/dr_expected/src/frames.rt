@@ -163,10 +163,8 @@ fn add(frames: &mut Vec<Frame>, frame: Frame) -> Result<(), NoMemory>
     if is_listed(frames, &frame) {
         return Ok(());
     }
-    match frames.push(frame) {
-        Ok(()) => Ok(()),
-        Err(_) => Err(NoMemory),
-    }
+    frames.push(frame)?;
+    Ok(())
 }
 
 // Adds what a stage leaves of the frame, on a visit that is complete or not.

@@ -4,8 +4,6 @@
 
 mod frames;
 mod posts;
-#[cfg(test)]
-mod tests;
 
 pub use frames::{Frame, expects_frame};
 pub use posts::expects_post;

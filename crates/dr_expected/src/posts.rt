@@ -91,10 +91,8 @@ fn add(list: &mut Vec<Standing>, standing: &Standing) -> Result<(), NoMemory>
     if is_listed(list, standing) {
         return Ok(());
     }
-    match list.push(*standing) {
-        Ok(()) => Ok(()),
-        Err(_) => Err(NoMemory),
-    }
+    list.push(*standing)?;
+    Ok(())
 }
 
 // Adds what a start leaves that had registered the machine.

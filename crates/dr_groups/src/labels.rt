@@ -108,8 +108,5 @@ pub fn datastore_groups(alloc: Global, estate: &Estate) -> Result<Vec<u32>, NoMe
 
     ensures labels { IfOk result (λ labels. AreLabels estate.now labels.items) }
 {
-    match labels_of(alloc, estate) {
-        Ok(labels) => Ok(labels),
-        Err(_) => Err(NoMemory),
-    }
+    Ok(labels_of(alloc, estate)?)
 }

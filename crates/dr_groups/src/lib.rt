@@ -9,8 +9,6 @@ mod leaders;
 pub mod marks;
 mod shared;
 mod splits;
-#[cfg(test)]
-mod tests;
 
 pub use dr_base::GroupFault;
 pub use dr_inventory::Members;

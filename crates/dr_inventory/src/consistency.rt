@@ -10,8 +10,7 @@ ghost use Rattle.dr_inventory.specs.Places.{AllFit, number_in};
 ghost use Rattle.dr_inventory.specs.Numbers.{least, least_in, consistency_of};
 
 use crate::document::ConsistencyEntry;
-use crate::numbers::number_of;
-use crate::places::note;
+use crate::named::{note, number_of};
 use dr_base::{Name, Rows};
 use std::alloc::{AllocError, Global};
 use std::collections::BTreeMap;

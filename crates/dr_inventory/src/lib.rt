@@ -9,15 +9,13 @@ mod lists;
 mod map_key;
 mod maps;
 mod members;
+pub mod named;
 mod numbers;
 mod places;
 mod plans;
 mod read_error;
 mod reading;
-pub mod samples;
 mod tables;
-#[cfg(test)]
-mod tests;
 mod twice;
 mod unknown;
 mod values;

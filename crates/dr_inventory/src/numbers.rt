@@ -8,6 +8,7 @@ ghost use Rattle.dr_inventory.specs.Numbers.{machine_of, datastore_of, group_of,
 use crate::consistency::consistency_of;
 use crate::document::{DatastoreEntry, Document, GroupEntry, MachineEntry};
 use crate::estate::{Datastore, Estate, GroupRow, Machine};
+use crate::named::numbers_of;
 use crate::places::Places;
 use dr_base::{Name, Rows};
 use std::alloc::{AllocError, Global};
@@ -24,32 +25,6 @@ pub fn devices_of(alloc: Global, datastores: &[DatastoreEntry]) -> Result<Vec<Na
     Ok(names)
 }
 
-/// The number of a name, 0 for one that has none.
-pub fn number_of(numbers: &BTreeMap<Name, usize>, name: &Name) -> u32
-    requires { AllFit numbers.now }
-    ensures { result ≡ number_in numbers.now name.now }
-{
-    match numbers.get(name) {
-        Some(number) => *number as u32,
-        None => 0,
-    }
-}
-
-fn numbers_of(
-    alloc: Global,
-    numbers: &BTreeMap<Name, usize>,
-    names: &[Name],
-) -> Result<Rows<u32>, AllocError>
-    requires { AllFit numbers.now }
-    ensures { IfOk result (λ ns. ns ≡ map (number_in numbers.now) names.now) }
-{
-    let mut found = Vec::with_capacity(alloc, names.len())?;
-    for name in names {
-        found.push(number_of(numbers, name))?;
-    }
-    Ok(Rows::new(found))
-}
-
 fn machine_of(
     alloc: Global,
     datastores: &BTreeMap<Name, usize>,
@@ -58,7 +33,7 @@ fn machine_of(
     requires { AllFit datastores.now }
     ensures { IfOk result (λ m. m ≡ machine_of (number_in datastores.now) entry.now) }
 {
-    let datastores = numbers_of(alloc, datastores, entry.datastores.as_slice())?;
+    let datastores = Rows::new(numbers_of(alloc, datastores, entry.datastores.as_slice())?);
     Ok(Machine {
         name: entry.name,
         network: entry.network,
@@ -91,7 +66,7 @@ fn datastore_of(
     requires { AllFit devices.now }
     ensures { IfOk result (λ d. d ≡ datastore_of (number_in devices.now) entry.now) }
 {
-    let devices = numbers_of(alloc, devices, entry.devices.as_slice())?;
+    let devices = Rows::new(numbers_of(alloc, devices, entry.devices.as_slice())?);
     Ok(Datastore {
         name: entry.name,
         devices,
@@ -121,7 +96,7 @@ fn group_of(
     requires { AllFit datastores.now }
     ensures { IfOk result (λ g. g ≡ group_of (number_in datastores.now) entry.now) }
 {
-    let datastores = numbers_of(alloc, datastores, entry.datastores.as_slice())?;
+    let datastores = Rows::new(numbers_of(alloc, datastores, entry.datastores.as_slice())?);
     Ok(GroupRow {
         name: entry.name,
         protects: entry.protects,

@@ -1,60 +1,17 @@
 //! Names that stand twice.
 
-ghost use Rattle.std.specs.Prelude.{◌≡◌, ℕ, List, [], ◌||◌, IfOk, OnOk, map, bytes_eq};
-ghost use Rattle.std.specs.Ordering.{nat_cmp};
-ghost use Rattle.std.specs.Cmp.Lexicographic.{slice_cmp};
-ghost use Rattle.std.specs.BTreeSet.{contains};
+ghost use Rattle.std.specs.Prelude.{[], map};
 ghost use Rattle.dr_base.specs.declared.estate_fault.EstateFault.TheVariants.{Twice};
 ghost use Rattle.dr_inventory.specs.Part.{IsUnlessMemory, first_or};
-ghost use Rattle.dr_inventory.specs.Names.{first, twice};
+ghost use Rattle.dr_inventory.specs.Names.{twice};
 
 use crate::document::{ConsistencyEntry, DatastoreEntry, GroupEntry, MachineEntry};
 use crate::estate::{PlanMachineRow, PlanRow};
+use crate::named::{Named, first_twice};
 use crate::read_error::ReadError;
 use crate::values::path_of;
 use dr_base::{EstateFault, Name};
 use std::alloc::{AllocError, Global};
-use std::collections::BTreeSet;
-
-/// Rows with names.
-pub trait Named {
-    ghost name: { Self → List ℕ };
-
-    ghost within: { Self → List (List ℕ) };
-
-    fn name(&self) -> Name
-        ensures { result ≡ name self.now };
-
-    /// The first name that stands twice within the row.
-    fn first_within(&self, alloc: Global) -> Result<Option<Name>, AllocError>
-        ensures { IfOk result (λ n. n ≡ first (within self.now)) };
-}
-
-// Adds a name, and says whether it was there.
-fn add(names: &mut BTreeSet<Name>, name: Name) -> Result<bool, AllocError>
-    ensures again { IfOk result (λ again. again ≡ contains (slice_cmp nat_cmp) names.old name) }
-    ensures added { OnOk result ((q : List ℕ) → contains (slice_cmp nat_cmp) names.new q ≡ (bytes_eq q name || contains (slice_cmp nat_cmp) names.old q)) }
-{
-    Ok(!names.insert(name)?)
-}
-
-/// The first name that stands twice.
-pub fn first_twice<T: Named>(alloc: Global, rows: &[T]) -> Result<Option<Name>, AllocError>
-    ensures { IfOk result (λ n. n ≡ first (twice T.name T.name T.within [] rows.now)) }
-{
-    let mut names = BTreeSet::new(alloc);
-    for row in rows {
-        let name = row.name();
-        if add(&mut names, name)? {
-            return Ok(Some(name));
-        }
-        let within = row.first_within(alloc)?;
-        if within.is_some() {
-            return Ok(within);
-        }
-    }
-    Ok(None)
-}
 
 /// Stops at the first name that stands twice.
 #[tactic(auto, using(crate::proofs::FaultLaws::mapped_some, crate::proofs::FaultLaws::mapped_none))]
@@ -64,22 +21,6 @@ pub fn no_name_twice<T: Named>(alloc: Global, rows: &[T]) -> Result<(), ReadErro
     match first_twice(alloc, rows)? {
         Some(name) => Err(ReadError::Fault(EstateFault::Twice(path_of(name)))),
         None => Ok(()),
-    }
-}
-
-impl Named for Name {
-    ghost use Rattle.dr_inventory.specs.Names.{nothing_within};
-
-    ghost name = { λ n. n };
-
-    ghost within = { nothing_within };
-
-    fn name(&self) -> Name {
-        *self
-    }
-
-    fn first_within(&self, _alloc: Global) -> Result<Option<Name>, AllocError> {
-        Ok(None)
     }
 }
 

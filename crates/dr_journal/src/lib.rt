@@ -6,8 +6,6 @@ mod fault;
 mod journal;
 mod opening;
 mod reading;
-#[cfg(test)]
-mod tests;
 mod walk;
 
 pub use fault::JournalFault;

@@ -13,8 +13,6 @@ mod machine_text;
 mod opening;
 mod pair_text;
 mod site_files;
-#[cfg(test)]
-mod tests;
 
 pub use file_array::FileArray;
 pub use file_port::FilePort;

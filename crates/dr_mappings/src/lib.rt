@@ -4,8 +4,6 @@
 pub mod laws;
 mod lookups;
 mod placing;
-#[cfg(test)]
-mod tests;
 
 pub use dr_base::{Kind, Placement, Unmapped};
 pub use placing::place;

@@ -8,8 +8,6 @@ mod journal_need;
 pub mod laws;
 mod stage;
 mod stage_list;
-#[cfg(test)]
-mod tests;
 
 pub use codes::{half_code, post_code};
 pub use journal_need::need;

@@ -274,8 +274,5 @@ pub fn stages(alloc: Global, plan: &Plan, op: Op, forced: bool) -> Result<Vec<St
     ensures { IfOk result (λ list. list.items ≡ stages plan.now op forced) }
 {
     let waves = waves(alloc, plan)?;
-    match stages_of(alloc, plan, &waves, op, forced) {
-        Ok(list) => Ok(list),
-        Err(_) => Err(NoMemory),
-    }
+    Ok(stages_of(alloc, plan, &waves, op, forced)?)
 }

@@ -46,33 +46,3 @@ pub fn exit_code(name: &Name) -> u8
     };
     if spells(digits, code) { code } else { 0 }
 }
-
-#[cfg(test)]
-mod tests {
-    use super::*;
-
-    #[test]
-    fn a_name_gives_its_code(rt: HostRuntime) {
-        for (text, code) in [
-            ("exit-0", 0),
-            ("exit-1", 1),
-            ("exit-10", 10),
-            ("exit-255", 255),
-            ("exit-256", 0),
-            ("exit-1000", 0),
-            ("exit-007", 0),
-            ("exit-00", 0),
-            ("exit-", 0),
-            ("exit-7a", 0),
-            ("exit--7", 0),
-            ("exit7", 0),
-            ("Exit-7", 0),
-            ("exit-7-", 0),
-            ("7", 0),
-            ("warm", 0),
-        ] {
-            let name = Name::read(text.as_bytes()).expect(&rt, "a name");
-            assert_eq!(rt; exit_code(&name), code, "{text}");
-        }
-    }
-}

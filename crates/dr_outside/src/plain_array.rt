@@ -96,11 +96,8 @@ impl PlainArray {
             },
             snapshot: None,
         };
-        let Ok(pairs) = vec![in alloc; pair; pairs as usize] else {
-            return Err(NoMemory);
-        };
         Ok(PlainArray {
-            pairs,
+            pairs: vec![in alloc; pair; pairs as usize]?,
             calls: 0,
             fails,
             faults: Sides { a: 0, b: 0 },
@@ -208,130 +205,5 @@ impl Array for PlainArray {
         ensures exact { PlainStep Reverse list.now self.old self.new result }
     {
         self.run(ArrayCall::Reverse, list)
-    }
-}
-
-#[cfg(test)]
-mod tests {
-    use super::*;
-    use crate::Snapshot;
-    use std::test::Fail;
-
-    const FIRST: Half = Half {
-        source: Side::A,
-        link: Link::Live,
-        writable: false,
-        content: Content {
-            line: 0,
-            base: 0,
-            writes: 95,
-        },
-        snapshot: None,
-    };
-
-    const fn content(line: u32, base: u64, writes: u64) -> Content {
-        Content { line, base, writes }
-    }
-
-    #[test]
-    fn a_pair_goes_through_a_test(rt: HostRuntime) -> Result<(), Fail> {
-        let mut array = PlainArray::opening(rt.alloc(), 1, Vec::new(rt.alloc()))?;
-        assert_eq!(rt; array.pair(0, Side::B), Ok(FIRST));
-        assert_eq!(rt; array.test_stop(&[0]), Err(ArrayFail::Wrong(0, FIRST)));
-        assert_eq!(rt; array.sync(&[0]), Ok(()));
-        assert_eq!(rt; array.test_start(7, &[0]), Ok(()));
-        let tested = Half {
-            content: content(0, 0, 100),
-            snapshot: Some(Snapshot {
-                run: 7,
-                content: content(0, 0, 100),
-            }),
-            ..FIRST
-        };
-        assert_eq!(rt; array.pair(0, Side::B), Ok(tested));
-        assert_eq!(rt; array.test_start(8, &[0]), Err(ArrayFail::Wrong(0, tested)));
-        assert_eq!(rt; array.test_stop(&[0]), Ok(()));
-        assert_eq!(rt;
-            array.pair(0, Side::B),
-            Ok(Half {
-                content: content(0, 0, 100),
-                ..FIRST
-            })
-        );
-        Ok(())
-    }
-
-    #[test]
-    fn a_pair_goes_over_and_turns_round(rt: HostRuntime) -> Result<(), Fail> {
-        let mut array = PlainArray::opening(rt.alloc(), 1, Vec::new(rt.alloc()))?;
-        assert_eq!(rt; array.reverse(&[0]), Err(ArrayFail::Wrong(0, FIRST)));
-        assert_eq!(rt; array.prepare(&[0]), Ok(()));
-        assert_eq!(rt; array.prepare(&[0]), Err(ArrayFail::Wrong(0, FIRST)));
-        assert_eq!(rt; array.failover(9, &[0]), Ok(()));
-        let over = Half {
-            link: Link::Split,
-            writable: true,
-            content: content(9, 95, 95),
-            ..FIRST
-        };
-        assert_eq!(rt; array.pair(0, Side::B), Ok(over));
-        assert_eq!(rt; array.failover(9, &[0]), Err(ArrayFail::Wrong(0, over)));
-        assert_eq!(rt; array.sync(&[0]), Err(ArrayFail::Wrong(0, over)));
-        assert_eq!(rt; array.reverse(&[0]), Ok(()));
-        let old_source = Half {
-            source: Side::B,
-            content: content(9, 95, 95),
-            ..FIRST
-        };
-        assert_eq!(rt; array.pair(0, Side::A), Ok(old_source));
-        assert_eq!(rt;
-            array.pair(0, Side::B),
-            Ok(Half {
-                writable: true,
-                ..old_source
-            })
-        );
-        Ok(())
-    }
-
-    #[test]
-    fn a_refused_call_names_the_first_pair_and_changes_none(rt: HostRuntime) -> Result<(), Fail> {
-        let mut array = PlainArray::opening(rt.alloc(), 3, Vec::new(rt.alloc()))?;
-        assert_eq!(rt; array.sync(&[1]), Ok(()));
-        assert_eq!(rt; array.test_start(1, &[1]), Ok(()));
-        assert_eq!(rt;
-            array.test_stop(&[0, 1, 2]),
-            Err(ArrayFail::Wrong(0, FIRST))
-        );
-        assert_eq!(rt; array.test_start(2, &[0, 2]), Ok(()));
-        assert_eq!(rt; array.pair(1, Side::A).is_ok(), true);
-        assert_eq!(rt; array.test_stop(&[0, 1, 2]), Ok(()));
-        assert_eq!(rt; array.pair(2, Side::B), Ok(FIRST));
-        Ok(())
-    }
-
-    #[test]
-    fn a_listed_call_fails_at_the_first_side_that_it_can_answer(
-        rt: HostRuntime,
-    ) -> Result<(), Fail> {
-        let fails = [
-            (1, Side::A),
-            (1, Side::B),
-            (2, Side::A),
-            (3, Side::B),
-            (3, Side::A),
-            (4, Side::B),
-            (6, Side::A),
-        ];
-        let fails = Vec::from_array(rt.alloc(), fails)?;
-        let mut array = PlainArray::opening(rt.alloc(), 1, fails)?;
-        assert_eq!(rt; array.test_start(1, &[0]), Err(ArrayFail::Failed(Side::B)));
-        assert_eq!(rt; array.test_stop(&[0]), Err(ArrayFail::Wrong(0, FIRST)));
-        assert_eq!(rt; array.sync(&[0]), Err(ArrayFail::Failed(Side::B)));
-        assert_eq!(rt; array.prepare(&[]), Err(ArrayFail::Failed(Side::B)));
-        assert_eq!(rt; array.sync(&[]), Ok(()));
-        assert_eq!(rt; array.pair(0, Side::B), Ok(FIRST));
-        assert_eq!(rt; array.prepare(&[0]), Err(ArrayFail::Failed(Side::A)));
-        Ok(())
     }
 }

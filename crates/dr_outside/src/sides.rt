@@ -63,19 +63,3 @@ impl Sides<u64> {
         *self = self.put(side, self.at(side).saturating_add(1));
     }
 }
-
-#[cfg(test)]
-mod tests {
-    use super::*;
-
-    #[test]
-    fn sides_are_read_and_put_apart(rt: HostRuntime) {
-        let sides = Sides { a: 1, b: 2 };
-        assert_eq!(rt; sides.at(Side::A), 1);
-        assert_eq!(rt; sides.at(Side::B), 2);
-        assert_eq!(rt; sides.put(Side::A, 9), Sides { a: 9, b: 2 });
-        assert_eq!(rt; sides.put(Side::B, 9), Sides { a: 1, b: 9 });
-        assert_eq!(rt; Sides::only(Side::A), Sides { a: true, b: false });
-        assert_eq!(rt; Sides::only(Side::B), Sides { a: false, b: true });
-    }
-}

@@ -1,22 +1,21 @@
 //! The protection groups of a plan.
 
-ghost use Rattle.std.specs.Prelude.{◌≡◌, ◌||◌, ℕ, List, [], not, is_some, find, map, bytes_eq, IfOk, OnOk, IfErr};
+ghost use Rattle.std.specs.Prelude.{◌≡◌, not, is_some, find, IfOk, OnOk, IfErr};
 ghost use Rattle.std.specs.Ordering.{nat_cmp};
 ghost use Rattle.std.specs.Cmp.Lexicographic.{slice_cmp};
 ghost use Rattle.std.specs.BTreeMap.{get};
-ghost use Rattle.std.specs.BTreeSet.{contains};
-ghost use Rattle.dr_inventory.specs.Names.{first, twice_in};
 ghost use Rattle.dr_inventory.specs.Sound.{IsSound};
 ghost use Rattle.dr_inventory.specs.declared.members.Members.{Members as AnyMembers};
 ghost use Rattle.dr_plan.specs.Rows.{group_numbers};
 ghost use Rattle.dr_plan.specs.Lookups.{StopsBy, AreGroupsRight};
 
-use crate::places::{group_names, numbers_of, places_of};
+use crate::names::group_names;
 use crate::stop::Stop;
 use dr_base::{Name, PlanFault};
+use dr_inventory::named::{first_twice, numbers_of, places_of};
 use dr_inventory::{Estate, PlanRow};
-use std::alloc::{AllocError, Global};
-use std::collections::{BTreeMap, BTreeSet};
+use std::alloc::Global;
+use std::collections::BTreeMap;
 
 // The first of these names that has no place.
 fn first_missing(places: &BTreeMap<Name, usize>, names: &[Name]) -> Option<Name>
@@ -28,27 +27,6 @@ fn first_missing(places: &BTreeMap<Name, usize>, names: &[Name]) -> Option<Name>
         }
     }
     None
-}
-
-// Adds a name, and says whether it was there.
-fn add(names: &mut BTreeSet<Name>, name: Name) -> Result<bool, AllocError>
-    ensures again { IfOk result (λ again. again ≡ contains (slice_cmp nat_cmp) names.old name) }
-    ensures added { OnOk result ((q : List ℕ) → contains (slice_cmp nat_cmp) names.new q ≡ (bytes_eq q name || contains (slice_cmp nat_cmp) names.old q)) }
-{
-    Ok(!names.insert(name)?)
-}
-
-// The first name that stands twice.
-fn first_twice(alloc: Global, names: &[Name]) -> Result<Option<Name>, AllocError>
-    ensures { IfOk result (λ n. n ≡ first (twice_in names.now)) }
-{
-    let mut known = BTreeSet::new(alloc);
-    for name in names {
-        if add(&mut known, *name)? {
-            return Ok(Some(*name));
-        }
-    }
-    Ok(None)
 }
 
 /// The numbers of the plan's groups, or the first fault among them: one that isn't declared, or else

@@ -2,21 +2,17 @@
 #![tactic(auto)]
 
 mod cycles;
-#[cfg(test)]
-mod cycles_tests;
 mod dependents;
 mod depths;
 mod groups;
 pub mod laws;
 mod machines;
 mod marks;
-mod places;
+mod names;
 mod plan;
 mod positions;
 mod reading;
 mod stop;
-#[cfg(test)]
-mod tests;
 mod walk;
 mod wave_lists;
 

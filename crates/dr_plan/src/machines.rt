@@ -12,9 +12,10 @@ ghost use Rattle.dr_plan.specs.Faults.{named_machines, other_pairs};
 ghost use Rattle.dr_plan.specs.Lookups.{IsPlaces, ArePlacesBelow, is_marked_name, number_and_priority, AreGroupsRight, AreMachinesRight, IsFound, StopsBy, row_names};
 
 use crate::marks::marks_of;
-use crate::places::{machine_names, number_of, numbers_of, places_of, row_names};
+use crate::names::{machine_names, row_names};
 use crate::stop::Stop;
 use dr_base::{Name, PlanFault, Rows};
+use dr_inventory::named::{number_of, numbers_of, places_of};
 use dr_inventory::{Estate, Members, PlanMachineRow, PlanRow};
 use std::alloc::{AllocError, Global};
 use std::collections::BTreeMap;

@@ -120,8 +120,5 @@ pub fn waves_in(alloc: Global, machines: &[PlanMachine]) -> Result<Vec<Wave>, Al
 pub fn waves(alloc: Global, plan: &Plan) -> Result<Vec<Wave>, NoMemory>
     ensures { IfOk result (λ list. list.items ≡ waves_of plan.now) }
 {
-    match waves_in(alloc, plan.machines.as_slice()) {
-        Ok(waves) => Ok(waves),
-        Err(_) => Err(NoMemory),
-    }
+    Ok(waves_in(alloc, plan.machines.as_slice())?)
 }

@@ -6,8 +6,6 @@ pub mod laws;
 mod reading;
 mod record_fault;
 mod records;
-#[cfg(test)]
-mod tests;
 mod writing;
 
 pub use decoding::decode;

@@ -241,9 +241,7 @@ pub fn encode(item: &Record, out: &mut Vec<u8>) -> Result<(), NoMemory>
     ensures room { vec_len out.old + length (spelling item.now) ≤
         vec_capacity out.old → IsOk result }
 {
-    if out.try_reserve(size(item)).is_err() {
-        return Err(NoMemory);
-    }
+    out.try_reserve(size(item))?;
     put_record(out, item);
     Ok(())
 }

@@ -37,8 +37,8 @@ fn tokens_of(alloc: Global, root: u32, commands: &[Option<Name>; 4]) -> Result<V
 {
     let mut tokens = Vec::new(alloc);
     for i in 0..4 {
-        if commands[i].is_some() && tokens.push(token_of(root, i as u32)).is_err() {
-            return Err(NoMemory);
+        if commands[i].is_some() {
+            tokens.push(token_of(root, i as u32))?;
         }
     }
     Ok(tokens)

@@ -9,8 +9,6 @@ mod next;
 mod replaying;
 mod runs;
 mod starts;
-#[cfg(test)]
-mod tests;
 mod visiting;
 mod walk;
 

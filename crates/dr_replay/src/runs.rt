@@ -57,8 +57,8 @@ pub(crate) fn run_named(item: &Record) -> u32
 fn take_in<'a>(run: &mut Run<'a>, item: &'a Record) -> Result<(), NoMemory>
     ensures { OnOk result (run_of run.new ≡ take_in item.now (run_of run.old)) }
 {
-    if run.start.run == run_named(item) && run.log.push(item).is_err() {
-        return Err(NoMemory);
+    if run.start.run == run_named(item) {
+        run.log.push(item)?;
     }
     Ok(())
 }
@@ -96,9 +96,7 @@ fn as_taken<'a>(alloc: Global, run: &Run<'a>) -> Result<Taken<'a>, NoMemory>
     ensures { IfOk result (λ taken. taken_of taken ≡ as_taken (run_of run.now)) }
 {
     let mut log = Vec::new(alloc);
-    if log.extend_from_slice(&run.log).is_err() {
-        return Err(NoMemory);
-    }
+    log.extend_from_slice(&run.log)?;
     Ok(Taken {
         start: run.start,
         plan: run.plan,
@@ -163,9 +161,7 @@ fn begin_run<'a>(
 {
     let run = new_run(alloc, estate, plan, runs, row)?;
     take_over_all(runs, row);
-    if runs.push(run).is_err() {
-        return Err(NoMemory);
-    }
+    runs.push(run)?;
     Ok(())
 }
 

@@ -36,9 +36,7 @@ fn excuse(visits: &mut Vec<Visit>, machine: u32) -> Result<(), NoMemory>
     ensures { OnOk result (visits_told visits.new.items ≡ excuse machine (visits_told visits.old.items)) }
 {
     if let Some(last) = visits.last_mut() {
-        if last.excused.push(machine).is_err() {
-            return Err(NoMemory);
-        }
+        last.excused.push(machine)?;
     }
     Ok(())
 }
@@ -54,9 +52,7 @@ fn add_to_visits(alloc: Global, visits: &mut Vec<Visit>, item: &Record) -> Resul
                 done: false,
                 excused: Vec::new(alloc),
             };
-            if visits.push(visit).is_err() {
-                return Err(NoMemory);
-            }
+            visits.push(visit)?;
         }
         Record::Done(_, _) => mark_done(visits),
         Record::Skip(_, _, machine) | Record::Aside(_, machine, _) => excuse(visits, *machine)?,

@@ -10,8 +10,6 @@ mod machines;
 mod names;
 mod preview;
 mod refusals;
-#[cfg(test)]
-mod tests;
 
 pub use answers::answer_text;
 pub use groups::groups_text;

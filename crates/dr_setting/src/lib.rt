@@ -4,8 +4,6 @@
 mod missing;
 mod reading;
 mod setting;
-#[cfg(test)]
-mod tests;
 
 pub use reading::read_setting;
 pub use setting::{Setting, SettingFault};

@@ -55,9 +55,7 @@ impl KeptCodes {
         if tokens <= self.room {
             return Ok(());
         }
-        if self.kept.reserve(tokens as usize).is_err() {
-            return Err(NoMemory);
-        }
+        self.kept.reserve(tokens as usize)?;
         self.room = tokens;
         Ok(())
     }

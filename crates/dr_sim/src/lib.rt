@@ -12,8 +12,6 @@ mod production;
 mod sim_array;
 mod sim_port;
 mod sim_runner;
-#[cfg(test)]
-mod tests;
 
 pub use faults::{ArrayFault, PortFault};
 pub use fixed_clock::FixedClock;

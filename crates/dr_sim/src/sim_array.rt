@@ -126,7 +126,7 @@ impl SimArray {
         ensures groups { IfOk result (λ array. IsLeastOfClass (slice_index estate.now.consistency) →
             (i : ℕ) → (state_of array).group i ≡ slice_index estate.now.consistency i) }
     {
-        SimArray::with_memory(alloc, estate, writes, faults, writer).map_err(|_| NoMemory)
+        Ok(SimArray::with_memory(alloc, estate, writes, faults, writer)?)
     }
 
     fn with_memory(

@@ -2,6 +2,5 @@ mod PlanLaws
 mod StartLaws
 pub mod StorageLaws
 pub mod TestLaws
-mod TestPlans
 mod WaveLaws
 pub mod WavesOf

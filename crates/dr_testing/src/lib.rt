@@ -4,7 +4,5 @@
 mod start_up;
 mod storage;
 mod test_run;
-#[cfg(test)]
-mod tests;
 
 pub use test_run::test_plan;

@@ -1,6 +1,0 @@
-//! Sites in files of the current folder.
-
-mod commands;
-mod machines;
-mod pairs;
-mod samples;

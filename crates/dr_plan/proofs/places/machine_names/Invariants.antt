@@ -1,5 +1,0 @@
-use Rattle.std.proofs.Common.{◌≡◌, map, take}
-use Rattle.dr_plan.proofs.places.machine_names.Given as goal
-
-abbrev pub invariant-loop-machine : goal.invariant-loop-machine
-invariant-loop-machine l = l.names.items ≡ map (λ row. row.name) (take l.machine-index l.estate.machines)

@@ -1,4 +1,0 @@
-mod arrays;
-mod faults;
-mod machines;
-mod samples;

@@ -1,0 +1,10 @@
+mod calls;
+mod estates;
+mod failures;
+mod finished;
+mod foreign;
+mod memory;
+mod refusals;
+mod reports;
+mod streams;
+mod stubborn;

@@ -1,0 +1,4 @@
+//! Names, and streams of bytes.
+
+mod names;
+mod streams;

@@ -1,0 +1,6 @@
+//! Sites in files of the current folder.
+
+mod commands;
+mod files;
+mod machines;
+mod pairs;

@@ -1,0 +1,18 @@
+//! Tests of names and streams, and of arrays, machines and runners: plain ones, simulated ones, and
+//! those in files.
+#![tactic(auto)]
+
+#[cfg(test)]
+mod arrays;
+#[cfg(test)]
+mod base;
+#[cfg(test)]
+mod lab;
+#[cfg(test)]
+mod plain;
+#[cfg(test)]
+mod ports;
+#[cfg(test)]
+mod sim;
+#[cfg(test)]
+mod walks;
