@@ -35,12 +35,7 @@ pub(crate) fn words(rt: &impl Env, alloc: Global) -> Result<Vec<String>, NoMemor
             Err(FillError::TooLong) => NO_WORD,
             Err(FillError::NotPresent) => break,
         };
-        let Ok(text) = String::from_str(alloc, text) else {
-            return Err(NoMemory);
-        };
-        if words.push(text).is_err() {
-            return Err(NoMemory);
-        }
+        words.push(String::from_str(alloc, text)?)?;
     }
     Ok(words)
 }

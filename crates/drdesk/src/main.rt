@@ -24,13 +24,9 @@ fn run(rt: &HostRuntime) -> Result<u8, NoMemory> {
     let alloc = rt.alloc();
     let words = words(rt, alloc)?;
     let mut array = PlainArray::opening(alloc, PAIRS, Vec::new(alloc))?;
-    let Ok(mut ports) = Vec::with_capacity(alloc, PORTS) else {
-        return Err(NoMemory);
-    };
+    let mut ports = Vec::with_capacity(alloc, PORTS)?;
     for _ in 0..PORTS {
-        if ports.push(PlainPort::opening(Vec::new(alloc))).is_err() {
-            return Err(NoMemory);
-        }
+        ports.push(PlainPort::opening(Vec::new(alloc)))?;
     }
     let mut source = StdSource::new(rt.reader());
     let mut sink = StdSink::new(io::writer(rt));
