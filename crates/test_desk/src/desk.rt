@@ -1,5 +1,6 @@
 mod calls;
 mod estates;
+mod failing_starts;
 mod failures;
 mod finished;
 mod foreign;
@@ -7,4 +8,3 @@ mod memory;
 mod refusals;
 mod reports;
 mod streams;
-mod stubborn;

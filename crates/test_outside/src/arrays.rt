@@ -47,7 +47,7 @@ pub fn shows<A: Array>(array: &mut A, pair: u32, side: Side, half: &Half) -> boo
 }
 
 /// Whether a reading of a pair fails at its side.
-pub fn hides<A: Array>(array: &mut A, pair: u32, side: Side) -> bool {
+pub fn reading_fails<A: Array>(array: &mut A, pair: u32, side: Side) -> bool {
     reads(array, pair, side, &Err(ArrayFail::Failed(side)))
 }
 

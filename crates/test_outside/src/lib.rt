@@ -9,10 +9,10 @@ mod base;
 #[cfg(test)]
 mod lab;
 #[cfg(test)]
+mod operations;
+#[cfg(test)]
 mod plain;
 #[cfg(test)]
 mod ports;
 #[cfg(test)]
 mod sim;
-#[cfg(test)]
-mod walks;

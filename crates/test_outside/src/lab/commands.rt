@@ -1,6 +1,6 @@
 //! Commands that run once, and the clock.
 
-use super::files::{forget, holds, is_there, writes};
+use super::files::{holds, is_there, remove, writes};
 use crate::ports::{calls, commands, stands};
 use dr_base::Side;
 use dr_lab::{FilePort, FileRunner, HostClock};
@@ -33,7 +33,7 @@ fn tells<P: Port>(port: &mut P) -> bool {
 #[test]
 fn a_machine_runs_a_command_once(rt: HostRuntime) {
     let file = "machine-730.kept";
-    forget(&rt, file);
+    remove(&rt, file);
     let mut port = FilePort::new(&rt, 730);
     let mut other = FilePort::new(&rt, 730);
     assert!(rt; port.ran(Side::B, 4294967296) == Ok(None));
@@ -42,7 +42,7 @@ fn a_machine_runs_a_command_once(rt: HostRuntime) {
     assert!(rt; tells(&mut other));
     assert!(rt; holds(&rt, file, MACHINES));
     assert!(rt; stands(&mut port, Side::B, &Post::Placeholder));
-    forget(&rt, file);
+    remove(&rt, file);
 }
 
 // Whether machine 740's calls of commands fail, and leave its file, where that has this text.
@@ -66,7 +66,7 @@ fn kept_commands_of_another_form_are_a_fault_and_stay(rt: HostRuntime) {
     ] {
         assert!(rt; is_fault(&rt, text), "{text}");
     }
-    forget(&rt, "machine-740.kept");
+    remove(&rt, "machine-740.kept");
 }
 
 const PLANS: &str = "token 4294967297 code 7 side none name exit-7
@@ -92,7 +92,7 @@ fn fails<R: Runner>(runner: &mut R) -> bool {
 #[test]
 fn a_plan_runs_a_command_once(rt: HostRuntime) {
     let file = "runner.kept";
-    forget(&rt, file);
+    remove(&rt, file);
     let mut runner = FileRunner::new(&rt);
     let mut other = FileRunner::new(&rt);
     assert!(rt; run_plans(&mut runner, &mut other));
@@ -100,7 +100,7 @@ fn a_plan_runs_a_command_once(rt: HostRuntime) {
     assert!(rt; writes(&rt, file, "token one\n"));
     assert!(rt; fails(&mut runner));
     assert!(rt; holds(&rt, file, "token one\n"));
-    forget(&rt, file);
+    remove(&rt, file);
 }
 
 // A clock that can't be read.

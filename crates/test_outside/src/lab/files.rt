@@ -4,7 +4,7 @@ use std::alloc::{AllocError, Global};
 use std::fs;
 
 /// Removes a file, if it is there.
-pub fn forget(rt: &HostRuntime, name: &str) {
+pub fn remove(rt: &HostRuntime, name: &str) {
     let _ = fs::remove_file(rt, name);
 }
 

@@ -1,6 +1,6 @@
 //! Machines in files.
 
-use super::files::{blocks, changed, forget, frees, holds, is_there, writes};
+use super::files::{blocks, changed, frees, holds, is_there, remove, writes};
 use crate::ports::{at_home, call_port, commands, does, fails, in_lab, refuses, stands};
 use dr_base::Side;
 use dr_lab::FilePort;
@@ -57,7 +57,7 @@ fn a_machine_is_registered_started_and_taken_away(rt: HostRuntime) {
     let file = "machine-700.site";
     let placed = in_lab(&rt);
     let home = at_home(&rt, "A");
-    forget(&rt, file);
+    remove(&rt, file);
     let mut port = FilePort::new(&rt, 700);
     let mut other = FilePort::new(&rt, 700);
     assert!(rt; is_new(&mut port, &home));
@@ -65,7 +65,7 @@ fn a_machine_is_registered_started_and_taken_away(rt: HostRuntime) {
     assert!(rt; starts(&mut port, &mut other, &placed, &home));
     assert!(rt; holds(&rt, file, STARTED));
     assert!(rt; goes_away(&mut port, &mut other, &placed));
-    forget(&rt, file);
+    remove(&rt, file);
 }
 
 const BY_HAND: &str = "A off
@@ -107,7 +107,7 @@ fn a_machine_is_laid_out_by_hand(rt: HostRuntime) {
     let mut port = FilePort::new(&rt, 710);
     let mut other = FilePort::new(&rt, 710);
     assert!(rt; moves(&mut port, &mut other, &placed));
-    forget(&rt, file);
+    remove(&rt, file);
 }
 
 // Whether all calls of a machine fail.
@@ -147,13 +147,13 @@ fn a_machine_of_another_form_is_a_fault_and_stays(rt: HostRuntime) {
         let text = changed(rt.alloc(), STARTED, from, to).expect(&rt, "memory");
         assert!(rt; is_fault(&rt, placed, text.as_str()), "{from}");
     }
-    forget(&rt, "machine-720.site");
+    remove(&rt, "machine-720.site");
 }
 
 // Removes the files of machine 725, if they are there.
 fn forget_both(rt: &HostRuntime) {
-    forget(rt, "machine-725.site");
-    forget(rt, "machine-725.kept");
+    remove(rt, "machine-725.site");
+    remove(rt, "machine-725.kept");
 }
 
 // Whether a registration and a command fail, and leave no trace.

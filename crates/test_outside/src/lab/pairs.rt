@@ -1,8 +1,8 @@
 //! Pairs in files.
 
-use super::files::{blocks, changed, forget, frees, holds, is_there, writes};
-use crate::arrays::{does, fails, hides, refuses, shows, target, writable};
-use crate::walks::{enter_test, freeze, go_over, leave_test, turn_round};
+use super::files::{blocks, changed, frees, holds, is_there, remove, writes};
+use crate::arrays::{does, fails, reading_fails, refuses, shows, target, writable};
+use crate::operations::{fail_over, prepare, reverse, start_test, stop_test};
 use dr_base::Side;
 use dr_lab::FileArray;
 use dr_outside::{Array, ArrayCall};
@@ -62,7 +62,7 @@ fn is_new<A: Array>(array: &mut A, pair: u32) -> bool {
 #[test]
 fn a_pair_without_a_file_stands_as_it_opens(rt: HostRuntime) {
     let name = "pair-700.site";
-    forget(&rt, name);
+    remove(&rt, name);
     let mut array = FileArray::new(&rt, 1024);
     let mut other = FileArray::new(&rt, 1024);
     assert!(rt; is_new(&mut array, 700));
@@ -70,7 +70,7 @@ fn a_pair_without_a_file_stands_as_it_opens(rt: HostRuntime) {
     assert!(rt; does(&mut array, ArrayCall::Sync, &[700]));
     assert!(rt; is_there(&rt, name));
     assert!(rt; is_new(&mut other, 700));
-    forget(&rt, name);
+    remove(&rt, name);
 }
 
 #[test]
@@ -80,25 +80,25 @@ fn a_pair_goes_through_a_test(rt: HostRuntime) {
     let mut array = FileArray::new(&rt, 1024);
     let mut other = FileArray::new(&rt, 1024);
     assert!(rt; shows(&mut other, 710, Side::B, &target(0, 0, 95)));
-    assert!(rt; enter_test(&mut array, &[710], 140));
+    assert!(rt; start_test(&mut array, &[710], 140));
     assert!(rt; holds(&rt, name, TESTED));
-    assert!(rt; leave_test(&mut other, &[710], 140));
+    assert!(rt; stop_test(&mut other, &[710], 140));
     assert!(rt; shows(&mut array, 710, Side::B, &target(0, 0, 140)));
-    forget(&rt, name);
+    remove(&rt, name);
 }
 
 #[test]
-fn a_pair_goes_over_and_turns_round(rt: HostRuntime) {
+fn a_pair_fails_over_and_is_reversed(rt: HostRuntime) {
     let name = "pair-720.site";
     assert!(rt; writes(&rt, name, BEHIND));
     let mut array = FileArray::new(&rt, 1024);
     let mut other = FileArray::new(&rt, 1024);
     assert!(rt; does(&mut array, ArrayCall::Sync, &[720]));
-    assert!(rt; freeze(&mut other, &[720], 140, 140));
-    assert!(rt; go_over(&mut array, &[720], 140));
-    assert!(rt; turn_round(&mut other, &[720], 140));
+    assert!(rt; prepare(&mut other, &[720], 140, 140));
+    assert!(rt; fail_over(&mut array, &[720], 140));
+    assert!(rt; reverse(&mut other, &[720], 140));
     assert!(rt; holds(&rt, name, TURNED));
-    forget(&rt, name);
+    remove(&rt, name);
 }
 
 // Whether all calls on a pair fail, each at its side.
@@ -115,7 +115,7 @@ fn all_calls_fail<A: Array>(array: &mut A, pair: u32) -> bool {
             return false;
         }
     }
-    hides(array, pair, Side::A) && hides(array, pair, Side::B)
+    reading_fails(array, pair, Side::A) && reading_fails(array, pair, Side::B)
 }
 
 // Whether all calls on pair 731 fail, and leave its file, where that has this text.
@@ -142,7 +142,7 @@ fn a_pair_of_another_form_is_a_fault_and_stays(rt: HostRuntime) {
         assert!(rt; is_fault(&rt, text.as_str()), "{from}");
     }
     assert!(rt; is_fault(&rt, ""));
-    forget(&rt, "pair-731.site");
+    remove(&rt, "pair-731.site");
 }
 
 #[test]
@@ -150,7 +150,7 @@ fn a_file_that_is_too_long_is_a_fault(rt: HostRuntime) {
     let bad = "pair-732.site";
     assert!(rt; fs::write(&rt, bad, [b'x'; 600].as_slice()).is_ok());
     assert!(rt; all_calls_fail(&mut FileArray::new(&rt, 1024), 732));
-    forget(&rt, bad);
+    remove(&rt, bad);
 }
 
 // Whether a sync of these pairs is done, and this one of them, which was behind, isn't then.
@@ -167,10 +167,10 @@ fn a_call_looks_at_all_its_pairs_first(rt: HostRuntime) {
     let mut array = FileArray::new(&rt, 1024);
     assert!(rt; fails(&mut array, ArrayCall::Sync, &[733, 734], Side::A));
     assert!(rt; holds(&rt, good, BEHIND));
-    forget(&rt, bad);
+    remove(&rt, bad);
     assert!(rt; syncs(&mut array, &[733, 734], 733));
-    forget(&rt, good);
-    forget(&rt, bad);
+    remove(&rt, good);
+    remove(&rt, bad);
 }
 
 // Whether the calls that would write a pair fail.
@@ -191,7 +191,7 @@ fn a_pair_that_cannot_be_written_is_a_fault_and_stays(rt: HostRuntime) {
     assert!(rt; frees(&rt, beside));
     assert!(rt; syncs(&mut array, &[740], 740));
     assert!(rt; !is_there(&rt, beside));
-    forget(&rt, name);
+    remove(&rt, name);
 }
 
 // Whether a sync of two pairs, the second of which can't be written, makes the first alone.
@@ -213,6 +213,6 @@ fn a_write_that_fails_leaves_the_pairs_before_as_done(rt: HostRuntime) {
     assert!(rt; holds(&rt, second, BEHIND));
     assert!(rt; frees(&rt, beside));
     assert!(rt; syncs(&mut array, &[742], 742));
-    forget(&rt, first);
-    forget(&rt, second);
+    remove(&rt, first);
+    remove(&rt, second);
 }

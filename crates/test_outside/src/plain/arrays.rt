@@ -1,7 +1,7 @@
 //! A plain array.
 
 use crate::arrays::{does, fails, refuses, shows, target, tested, writable};
-use crate::walks::{enter_test, freeze, go_over, leave_test, turn_round};
+use crate::operations::{fail_over, prepare, reverse, start_test, stop_test};
 use dr_base::Side;
 use dr_outside::{ArrayCall, PlainArray};
 use std::alloc::Global;
@@ -16,16 +16,16 @@ fn opened(alloc: Global, pairs: u32, fails: &[(u64, Side)]) -> Option<PlainArray
 fn a_pair_goes_through_a_test(rt: HostRuntime) {
     let mut array = opened(rt.alloc(), 1, &[]).expect(&rt, "an array");
     assert!(rt; shows(&mut array, 0, Side::B, &target(0, 0, 95)));
-    assert!(rt; enter_test(&mut array, &[0], 100));
-    assert!(rt; leave_test(&mut array, &[0], 100));
+    assert!(rt; start_test(&mut array, &[0], 100));
+    assert!(rt; stop_test(&mut array, &[0], 100));
 }
 
 #[test]
-fn a_pair_goes_over_and_turns_round(rt: HostRuntime) {
+fn a_pair_fails_over_and_is_reversed(rt: HostRuntime) {
     let mut array = opened(rt.alloc(), 1, &[]).expect(&rt, "an array");
-    assert!(rt; freeze(&mut array, &[0], 100, 95));
-    assert!(rt; go_over(&mut array, &[0], 95));
-    assert!(rt; turn_round(&mut array, &[0], 95));
+    assert!(rt; prepare(&mut array, &[0], 100, 95));
+    assert!(rt; fail_over(&mut array, &[0], 95));
+    assert!(rt; reverse(&mut array, &[0], 95));
 }
 
 #[test]

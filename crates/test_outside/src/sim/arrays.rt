@@ -2,7 +2,7 @@
 
 use super::sites::{ALL, THREE_PAIRS, opened};
 use crate::arrays::{does, from_b, refuses, shows, split, target, tested, writable};
-use crate::walks::{enter_test, freeze, go_over, leave_test, over, turn_round};
+use crate::operations::{fail_over, failed_over, prepare, reverse, start_test, stop_test};
 use dr_base::Side;
 use dr_outside::ArrayCall;
 use dr_sim::Write;
@@ -50,10 +50,10 @@ fn each_pair_opens_as_its_first_group_protects_it(rt: HostRuntime) {
 fn a_test_takes_the_pairs_that_it_needs(rt: HostRuntime) {
     let mut array = opened(rt.alloc(), THREE_PAIRS, &[], &[]).expect(&rt, "an array");
     let array = &mut array;
-    assert!(rt; enter_test(array, &ALL, 100));
+    assert!(rt; start_test(array, &ALL, 100));
     assert!(rt; does(array, ArrayCall::Sync, &ALL));
     assert!(rt; shows(array, 0, Side::B, &tested(7, target(0, 0, 100))));
-    assert!(rt; leave_test(array, &ALL, 100));
+    assert!(rt; stop_test(array, &ALL, 100));
     assert!(rt; shows(array, 1, Side::B, &target(0, 0, 100)));
 }
 
@@ -61,23 +61,23 @@ fn a_test_takes_the_pairs_that_it_needs(rt: HostRuntime) {
 fn a_move_takes_the_pairs_that_it_needs(rt: HostRuntime) {
     let mut array = opened(rt.alloc(), THREE_PAIRS, &[], &[]).expect(&rt, "an array");
     let array = &mut array;
-    assert!(rt; freeze(array, &ALL, 100, 95));
-    assert!(rt; go_over(array, &ALL, 95));
-    assert!(rt; shows(array, 1, Side::B, &over(95)));
-    assert!(rt; turn_round(array, &ALL, 95));
+    assert!(rt; prepare(array, &ALL, 100, 95));
+    assert!(rt; fail_over(array, &ALL, 95));
+    assert!(rt; shows(array, 1, Side::B, &failed_over(95)));
+    assert!(rt; reverse(array, &ALL, 95));
 }
 
 #[test]
-fn a_pair_is_turned_only_once_its_source_is_frozen(rt: HostRuntime) {
+fn a_pair_is_reversed_only_once_its_source_is_read_only(rt: HostRuntime) {
     let mut array = opened(rt.alloc(), THREE_PAIRS, &[], &[]).expect(&rt, "an array");
     let array = &mut array;
-    assert!(rt; go_over(array, &ALL, 95));
-    assert!(rt; refuses(array, ArrayCall::Reverse, &ALL, 0, &over(95)));
+    assert!(rt; fail_over(array, &ALL, 95));
+    assert!(rt; refuses(array, ArrayCall::Reverse, &ALL, 0, &failed_over(95)));
     assert!(rt; does(array, ArrayCall::Prepare, &[0, 1]));
-    assert!(rt; refuses(array, ArrayCall::Reverse, &ALL, 2, &over(95)));
-    assert!(rt; shows(array, 1, Side::B, &over(95)));
+    assert!(rt; refuses(array, ArrayCall::Reverse, &ALL, 2, &failed_over(95)));
+    assert!(rt; shows(array, 1, Side::B, &failed_over(95)));
     assert!(rt; does(array, ArrayCall::Prepare, &[2]));
-    assert!(rt; turn_round(array, &ALL, 95));
+    assert!(rt; reverse(array, &ALL, 95));
 }
 
 #[test]

@@ -1,7 +1,7 @@
 //! Faults and fuses of a simulated array.
 
 use super::sites::{ALL, CROSSED_PAIRS, THREE_PAIRS, opened};
-use crate::arrays::{does, fails, hides, shows, split, target, tested, writable};
+use crate::arrays::{does, fails, reading_fails, shows, split, target, tested, writable};
 use dr_base::Side;
 use dr_outside::ArrayCall;
 use dr_sim::{ArrayFault, SimArray};
@@ -10,10 +10,10 @@ const fn fault(call: u64, side: Side, done: u32) -> ArrayFault {
     ArrayFault { call, side, done }
 }
 
-// Which pairs are over, after a failover that fails after so many consistency groups.
-fn is_over_after(array: &mut SimArray, over: [bool; 3]) -> bool {
+// Whether these pairs have failed over, after a failover that fails after so many consistency groups.
+fn have_failed_over(array: &mut SimArray, are_split: [bool; 3]) -> bool {
     for i in 0..3 {
-        let half = if over[i] {
+        let half = if are_split[i] {
             writable(split(target(9, 95, 95)))
         } else {
             target(0, 0, 95)
@@ -27,7 +27,7 @@ fn is_over_after(array: &mut SimArray, over: [bool; 3]) -> bool {
 
 #[test]
 fn a_call_fails_after_whole_consistency_groups(rt: HostRuntime) {
-    for (done, over) in [
+    for (done, are_split) in [
         (0, [false, false, false]),
         (1, [true, true, false]),
         (2, [true, true, true]),
@@ -39,7 +39,7 @@ fn a_call_fails_after_whole_consistency_groups(rt: HostRuntime) {
             fails(&mut array, ArrayCall::Failover(9), &ALL, Side::B),
             "after {done}"
         );
-        assert!(rt; is_over_after(&mut array, over), "after {done}");
+        assert!(rt; have_failed_over(&mut array, are_split), "after {done}");
     }
 }
 
@@ -48,10 +48,10 @@ fn consistency_groups_go_by_their_first_pairs_in_the_list(rt: HostRuntime) {
     let faults = [fault(1, Side::B, 1)];
     let mut array = opened(rt.alloc(), CROSSED_PAIRS, &faults, &[]).expect(&rt, "an array");
     assert!(rt; fails(&mut array, ArrayCall::Failover(9), &ALL, Side::B));
-    assert!(rt; is_over_after(&mut array, [true, false, true]));
+    assert!(rt; have_failed_over(&mut array, [true, false, true]));
     let mut array = opened(rt.alloc(), CROSSED_PAIRS, &faults, &[]).expect(&rt, "an array");
     assert!(rt; fails(&mut array, ArrayCall::Failover(9), &[1, 2], Side::B));
-    assert!(rt; is_over_after(&mut array, [false, true, false]));
+    assert!(rt; have_failed_over(&mut array, [false, true, false]));
 }
 
 #[test]
@@ -60,7 +60,7 @@ fn a_call_that_fails_does_nothing_where_a_pair_is_unfit(rt: HostRuntime) {
     let mut array = opened(rt.alloc(), THREE_PAIRS, &faults, &[]).expect(&rt, "an array");
     assert!(rt; fails(&mut array, ArrayCall::Failover(9), &[1, 2], Side::B));
     assert!(rt; fails(&mut array, ArrayCall::Failover(9), &ALL, Side::B));
-    assert!(rt; is_over_after(&mut array, [false, true, false]));
+    assert!(rt; have_failed_over(&mut array, [false, true, false]));
 }
 
 #[test]
@@ -86,7 +86,7 @@ fn the_first_fault_at_a_side_of_the_call_counts(rt: HostRuntime) {
     assert!(rt; shows(array, 0, Side::B, &tested(1, target(0, 0, 95))));
     assert!(rt; fails(array, ArrayCall::Prepare, &[0, 1], Side::A));
     assert!(rt; shows(array, 1, Side::B, &target(0, 0, 95)));
-    assert!(rt; hides(array, 1, Side::B));
+    assert!(rt; reading_fails(array, 1, Side::B));
     assert!(rt; shows(array, 1, Side::A, &writable(target(0, 0, 100))));
 }
 
@@ -116,7 +116,7 @@ fn burns(array: &mut SimArray, calls: u32) -> bool {
             return false;
         }
     }
-    hides(array, 0, Side::A) && hides(array, 0, Side::B)
+    reading_fails(array, 0, Side::A) && reading_fails(array, 0, Side::B)
 }
 
 // Whether all calls from this one on are done.

@@ -12,9 +12,9 @@ fn ends(list: &[u32]) -> Option<(u32, u32)> {
     }
 }
 
-/// Whether the pairs, with so many writes at their sources and 95 at their targets, go into the test
-/// of run 7.
-pub fn enter_test<A: Array>(array: &mut A, list: &[u32], source: u64) -> bool {
+/// Whether the pairs, with so many writes at their sources and 95 at their targets, are put
+/// into the test of run 7.
+pub fn start_test<A: Array>(array: &mut A, list: &[u32], source: u64) -> bool {
     let Some((first, last)) = ends(list) else {
         return false;
     };
@@ -28,8 +28,8 @@ pub fn enter_test<A: Array>(array: &mut A, list: &[u32], source: u64) -> bool {
         && refuses(array, ArrayCall::TestStart(8), list, first, &with_snapshot)
 }
 
-/// Whether they come out of it.
-pub fn leave_test<A: Array>(array: &mut A, list: &[u32], source: u64) -> bool {
+/// Whether that test is stopped.
+pub fn stop_test<A: Array>(array: &mut A, list: &[u32], source: u64) -> bool {
     let Some((first, last)) = ends(list) else {
         return false;
     };
@@ -44,8 +44,8 @@ pub fn leave_test<A: Array>(array: &mut A, list: &[u32], source: u64) -> bool {
         && shows(array, last, Side::B, &synced)
 }
 
-/// Whether the pairs, with so many writes at their sources and targets, are frozen.
-pub fn freeze<A: Array>(array: &mut A, list: &[u32], source: u64, reached: u64) -> bool {
+/// Whether the pairs, with so many writes at their sources and targets, are made read-only.
+pub fn prepare<A: Array>(array: &mut A, list: &[u32], source: u64, reached: u64) -> bool {
     let Some((first, last)) = ends(list) else {
         return false;
     };
@@ -57,25 +57,25 @@ pub fn freeze<A: Array>(array: &mut A, list: &[u32], source: u64, reached: u64) 
 }
 
 /// A target that run 9 split with so many writes.
-pub fn over(reached: u64) -> Half {
+pub fn failed_over(reached: u64) -> Half {
     writable(split(target(9, reached, reached)))
 }
 
-/// Whether they go over with so many writes at their targets.
-pub fn go_over<A: Array>(array: &mut A, list: &[u32], reached: u64) -> bool {
+/// Whether they fail over with so many writes at their targets.
+pub fn fail_over<A: Array>(array: &mut A, list: &[u32], reached: u64) -> bool {
     let Some((first, last)) = ends(list) else {
         return false;
     };
-    let over = over(reached);
+    let split = failed_over(reached);
     does(array, ArrayCall::Failover(9), list)
-        && shows(array, last, Side::B, &over)
-        && refuses(array, ArrayCall::Failover(9), list, first, &over)
-        && refuses(array, ArrayCall::Sync, list, first, &over)
-        && refuses(array, ArrayCall::TestStart(9), list, first, &over)
+        && shows(array, last, Side::B, &split)
+        && refuses(array, ArrayCall::Failover(9), list, first, &split)
+        && refuses(array, ArrayCall::Sync, list, first, &split)
+        && refuses(array, ArrayCall::TestStart(9), list, first, &split)
 }
 
-/// Whether they turn round then. What the former source had of its own is gone.
-pub fn turn_round<A: Array>(array: &mut A, list: &[u32], reached: u64) -> bool {
+/// Whether they are reversed then. What the former source had of its own is gone.
+pub fn reverse<A: Array>(array: &mut A, list: &[u32], reached: u64) -> bool {
     let Some((first, last)) = ends(list) else {
         return false;
     };

@@ -12,13 +12,13 @@ use std::process::Abort;
 
 // A machine whose starts fail, and leave it so.
 #[derive(Drop)]
-struct StubbornPort {
+struct FailingPort {
     post: Sides<Post>,
     left: Stand,
     faults: Sides<u64>,
 }
 
-impl Port for StubbornPort {
+impl Port for FailingPort {
     ghost tells = { ⊥ };
 
     ghost state = { λ port. record { post = port.post; kept = []; faults = λ side. at side port.faults } };
@@ -58,8 +58,8 @@ impl Port for StubbornPort {
 }
 
 // Two machines whose starts leave them so.
-fn stubborn_ports(rt: &impl Abort, alloc: Global, left: Stand) -> Vec<StubbornPort> {
-    let port = || StubbornPort {
+fn failing_ports(rt: &impl Abort, alloc: Global, left: Stand) -> Vec<FailingPort> {
+    let port = || FailingPort {
         post: Sides {
             a: opening_post(rt),
             b: Post::Placeholder,
@@ -73,7 +73,7 @@ fn stubborn_ports(rt: &impl Abort, alloc: Global, left: Stand) -> Vec<StubbornPo
 // A test of the small estate whose machines' starts leave them so fails at the first one.
 fn fails_leaving(rt: &impl Abort, alloc: Global, left: Stand) {
     let mut array = PlainArray::opening(alloc, 1, Vec::new(alloc)).expect(rt, "memory");
-    let mut ports = stubborn_ports(rt, alloc, left);
+    let mut ports = failing_ports(rt, alloc, left);
     answers(
         rt,
         alloc,
