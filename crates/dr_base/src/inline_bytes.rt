@@ -4,9 +4,9 @@ ghost use Rattle.dr_base.specs.Padded.{padded};
 use std::cmp::Ordering;
 use std::marker::Model;
 
-/// At most `CAP` bytes that lie in the value itself. Contracts see the bytes.
+/// At most `CAP` bytes that lie in the value itself, compared as slices are. Contracts see the bytes.
 #[derive(Clone, Copy, Debug)]
-pub(crate) struct InlineBytes<const CAP: usize> {
+pub struct InlineBytes<const CAP: usize> {
     bytes: [u8; CAP],
     len: usize,
 }
@@ -37,7 +37,8 @@ fn filled_up<const CAP: usize>(bytes: &[u8]) -> [u8; CAP]
 }
 
 impl<const CAP: usize> InlineBytes<CAP> {
-    pub(crate) fn new(bytes: &[u8]) -> Self
+    /// These bytes.
+    pub fn new(bytes: &[u8]) -> Self
         requires { length bytes.now ≤ CAP }
         ensures { result ≡ bytes.now }
     {
@@ -47,7 +48,8 @@ impl<const CAP: usize> InlineBytes<CAP> {
         }
     }
 
-    pub(crate) fn as_slice(&self) -> &[u8]
+    /// The bytes.
+    pub fn as_slice(&self) -> &[u8]
         ensures value { result.now ≡ self.now }
         ensures fits { length result.now ≤ CAP }
     {
@@ -73,4 +75,36 @@ impl<const CAP: usize> Eq for InlineBytes<CAP> {
     ghost use Rattle.std.specs.Cmp.Lexicographic.{nat_list_eq_equiv};
 
     ghost laws = { nat_list_eq_equiv };
+}
+
+impl<const CAP: usize> PartialOrd for InlineBytes<CAP> {
+    ghost use Rattle.std.specs.Prelude.{Some};
+    ghost use Rattle.std.specs.Ordering.{nat_cmp};
+    ghost use Rattle.std.specs.Cmp.Lexicographic.{slice_cmp, texts_po};
+
+    ghost partial_cmp = { λ x y. Some (slice_cmp nat_cmp x y) };
+
+    ghost laws = { texts_po };
+
+    fn partial_cmp(&self, other: &Self) -> Option<Ordering> {
+        Some(self.cmp(other))
+    }
+}
+
+impl<const CAP: usize> Ord for InlineBytes<CAP> {
+    ghost use Rattle.std.specs.Prelude.{refl};
+    ghost use Rattle.std.specs.Ordering.{nat_cmp};
+    ghost use Rattle.std.specs.Cmp.Lexicographic.{slice_cmp, nat_list_cmp_total, texts_ties};
+
+    ghost cmp = { slice_cmp nat_cmp };
+
+    ghost total = { nat_list_cmp_total };
+
+    ghost matches_partial_cmp = { λ x y. refl };
+
+    ghost matches_eq = { texts_ties };
+
+    fn cmp(&self, other: &Self) -> Ordering {
+        self.as_slice().cmp(other.as_slice())
+    }
 }

@@ -1,11 +1,10 @@
 -- What each answer may tell, and what it comes to.
-use Rattle.std.proofs.Common.{◌≡◌, ◌≢◌, ℕ, ◌≤◌, ◌<◌, ◌+◌, inl, inr, Bool, true, false, ◌&&◌, List, length, refl, sym, ◌∙◌, ap, subst, arith, map, get_or}
-use Rattle.std.proofs.lemmas.Bool.{cases_lt, lt-ltb, le-ltb, eqb-true}
+use Rattle.std.proofs.Common.{◌≡◌, ◌≢◌, ℕ, ◌<◌, inl, inr, true, false, List, length, refl, sym, ◌∙◌, ap, subst, arith, get_or}
+use Rattle.std.proofs.lemmas.Bool.{lt-ltb, le-ltb, eqb-true}
 use Rattle.std.proofs.lemmas.List.{length-map}
 use Rattle.std.proofs.lemmas.List.Folds.{Any-from_list_any}
 use Rattle.std.specs.Prelude.{◌==◌, slice_index}
-use Rattle.std.specs.List.{list_any}
-use Rattle.std.specs.Prelude.{Option, Some, None, All, Contains, slice_get, nat_lt, if◌then◌else◌}
+use Rattle.std.specs.Prelude.{Some, nat_lt}
 use Rattle.dr_base.specs.declared.answer.Answer.{Answer}
 use Rattle.dr_base.specs.declared.answer.Answer.TheVariants.{Done, Refused, ArrayFault, PortFault, NoMemory, Foreign, Groups as GroupsAnswer, Plan as PlanAnswer}
 use Rattle.dr_base.specs.declared.answer.Thing.TheVariants.{Pair as PairThing, Machine as MachineThing}
@@ -28,14 +27,16 @@ use Rattle.dr_testing.specs.Placing.{is_planned}
 use Rattle.dr_testing.specs.Tests.{Site, CallsNothing, HasSlots, IsTestable, TestCause, RunCause}
 use Rattle.dr_inventory.specs.Sound.{IsSound}
 use Rattle.dr_plan.specs.Faults.{IsFirstOfRow}
-use Rattle.dr_setting.specs.declared.setting.SettingFault.{SettingFault}
-use Rattle.dr_setting.specs.declared.setting.SettingFault.TheVariants.{Groups as OfGroups, Plan as OfPlan, Unmapped as OfMaps, NoMemory as NoMemoryForSetting}
-use Rattle.dr_setting.specs.Settings.{HoldsNumbers, IsFirstFault}
-use Rattle.dr_setting.proofs.UniqueLaws.{fault_numbers}
+use Rattle.dr_declared.specs.declared.contents.ProtectionFault.{ProtectionFault}
+use Rattle.dr_declared.specs.declared.contents.ProtectionFault.TheVariants.{Groups as OfGroups, Plan as OfPlan, Unmapped as OfMaps}
+use Rattle.dr_declared.specs.declared.contents.DeclaredFault.{DeclaredFault}
+use Rattle.dr_declared.specs.declared.contents.DeclaredFault.TheVariants as faults
+use Rattle.dr_declared.specs.Faults.{HoldsNumbers, IsFirstFaultOf, IsProtectionFaultOf}
+use Rattle.dr_declared.proofs.UniqueLaws.{fault_numbers, text_sound}
 use Rattle.dr_report.specs.Conditions.{HidesNoAnswer, HoldsNumbersOf, IsShort}
 use Rattle.dr_base.specs.declared.answer.Thing.{Thing}
-use Rattle.dr_desk.specs.Calls.{Said, SaysOnly, OrLacked, VerdictCause, IsTest, plain}
-use Rattle.dr_desk.specs.Readings.{fault_answer}
+use Rattle.dr_desk.specs.Calls.{Said, OrLacked, VerdictCause, IsTest, plain}
+use Rattle.dr_desk.specs.Faults.{fault_answer, fault_estate, protection_answer}
 use Rattle.dr_desk.specs.Verdicts.{slots_verdict, IsPlainRefusal, Test}
 
 -- an answer that may be told, and whose text always finds room
@@ -139,12 +140,17 @@ plans_tell estate name (plan_faults.OtherPriority machine dependency) numbers = 
 plans_tell estate name (plan_faults.Cycle machines) numbers = λ k d below. omega (arith, length-map estate.machines (λ (m : Machine). m.name), numbers k d below)
 plans_tell estate name fault numbers = tt
 
--- a fault of an estate may be told
-pub fault_tells : (estate : Estate) (fault : SettingFault) → IsSound estate → IsFirstFault estate fault → HoldsNumbersOf (Some estate) (fault_answer fault) × HidesNoAnswer (fault_answer fault)
-fault_tells estate (OfGroups fault) sound is = (groups_tell estate fault (fault_numbers estate (OfGroups fault) sound is), is.is_fault)
-fault_tells estate (OfPlan name fault) sound is = (
+-- a fault of an estate's protection may be told
+protection_tells : (estate : Estate) (fault : ProtectionFault) → IsSound estate → IsProtectionFaultOf estate fault → HoldsNumbersOf (Some estate) (protection_answer fault) × HidesNoAnswer (protection_answer fault)
+protection_tells estate (OfGroups fault) sound is = (groups_tell estate fault (fault_numbers estate (OfGroups fault) sound is), is.is_fault)
+protection_tells estate (OfPlan name fault) sound is = (
   plans_tell estate name fault (fault_numbers estate (OfPlan name fault) sound is),
   λ none. (let row = is.is_first.faulty.is_first in subst (λ f. IsFirstOfRow estate is.members row.row f) none row.first_of_row),
 )
-fault_tells estate (OfMaps unmapped) sound is = (omega (arith, length-map estate.machines (λ (m : Machine). m.name), fault_numbers estate (OfMaps unmapped) sound is), tt)
-fault_tells estate NoMemoryForSetting sound is = (tt, tt)
+protection_tells estate (OfMaps unmapped) sound is = (omega (arith, length-map estate.machines (λ (m : Machine). m.name), fault_numbers estate (OfMaps unmapped) sound is), tt)
+
+-- what is wrong with an input may be told
+pub fault_tells : (input : List ℕ) (fault : DeclaredFault) → (fault ≢ faults.NoMemory → IsFirstFaultOf input fault) → HoldsNumbersOf (fault_estate fault) (fault_answer fault) × HidesNoAnswer (fault_answer fault)
+fault_tells input (faults.Estate fault) is = (tt, (is (λ e. cc e)).1)
+fault_tells input (faults.Protection estate fault) is = (let first = is (λ e. cc e) in protection_tells estate fault (text_sound input estate first.0) first.1)
+fault_tells input faults.NoMemory is = (tt, tt)

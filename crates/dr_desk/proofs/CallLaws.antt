@@ -1,31 +1,33 @@
 -- What the answer of a call, with its cause, says of each promise of the call.
-use Rattle.std.proofs.Common.{◌≡◌, ℕ, ◌≤◌, ◌<◌, ◌⊎◌, inl, inr, true, false, List, length, refl, sym, ◌∙◌, ap, subst, arith, map}
+use Rattle.std.proofs.Common.{◌≡◌, ℕ, ◌⊎◌, inl, inr, true, false, List, length, refl, sym, ◌∙◌, ap, subst, arith, map}
 use Rattle.std.proofs.lemmas.Bool.{cases_lt}
 use Rattle.std.proofs.lemmas.List.{get_or_past, length-map}
-use Rattle.std.specs.Prelude.{Option, Some, None}
+use Rattle.std.specs.Prelude.{Option, Some, None, Result, Ok, Err}
 use Rattle.dr_base.specs.Answers.{status_of}
-use Rattle.dr_base.specs.declared.side.Side.TheVariants.{A, B}
+use Rattle.dr_base.specs.declared.side.Side.TheVariants.{B}
 use Rattle.dr_base.specs.declared.answer.Answer.{Answer}
-use Rattle.dr_base.specs.declared.answer.Answer.TheVariants.{Done, BadWords, ArrayFault, PortFault, ReadFault, NoMemory, Foreign}
+use Rattle.dr_base.specs.declared.answer.Answer.TheVariants.{Done, BadWords, ArrayFault, PortFault, Foreign}
 use Rattle.dr_base.specs.declared.answer.Thing.TheVariants.{Pair, Machine}
 use Rattle.dr_base.specs.declared.command.Command.{Command}
 use Rattle.dr_base.specs.declared.command.Command.TheVariants.{Preview, Groups}
 use Rattle.dr_inventory.specs.declared.estate.Estate.{Estate}
 use Rattle.dr_plan.specs.declared.plan.Plan.{Plan}
+use Rattle.dr_declared.specs.declared.contents.Declared.{Declared}
+use Rattle.dr_declared.specs.declared.contents.DeclaredFault.{DeclaredFault}
+use Rattle.dr_declared.specs.Faults.{IsReading}
+use Rattle.dr_declared.proofs.UniqueLaws.{one_reading}
 use Rattle.dr_outside.specs.declared.machine.Post.TheVariants.{Placeholder}
 use Rattle.dr_outside.specs.Arrays.{ArrayState}
 use Rattle.dr_outside.specs.Machines.{PortState, machine_at, no_machine}
 use Rattle.dr_outside.proofs.Drifts.{Drift-refl}
-use Rattle.dr_model.specs.StartUp.{is_started}
+use Rattle.dr_meaning.specs.StartUp.{is_started}
 use Rattle.dr_testing.specs.Tests.{Site, site, AreInOrder, AreTestedByGroup, AreTestedPairs, HasOpeningPairs, HasOpeningMachines, MachinesDone, PairsDone, RunCause}
 use Rattle.dr_testing.proofs.StorageLaws.{beside}
 use Rattle.dr_report.specs.Reports.{TellsGroups, preview_text_of}
-use Rattle.dr_desk.specs.Calls.{Answers, Received, Sent, Said, IsAnswer, IsTest, IsReadFailed, SaysOnly, IsShown, ShowsOnly, ReadingCause, VerdictCause, OrLacked, Gives, IsSilent, LacksMemory, Says, Shows, NoneRose, IsTested, KeepsProtected, KeepsOthers, ComesTo, AsksToTest, plain, shown, refusal_due, verdict_refusal, is_refusal}
-use Rattle.dr_desk.specs.Readings.{Reading, IsReading, NoEstate, Faulty, Sound}
+use Rattle.dr_desk.specs.Calls.{Answers, Received, Sent, Said, IsTest, IsReadFailed, ShowsOnly, ReadingCause, VerdictCause, OrLacked, Gives, IsSilent, LacksMemory, Says, Shows, NoneRose, IsTested, KeepsProtected, KeepsOthers, ComesTo, AsksToTest, plain, refusal_due, verdict_refusal, is_refusal}
 use Rattle.dr_desk.specs.Streams.{looked_at}
-use Rattle.dr_desk.specs.Verdicts.{Verdict, Refuse, ShowGroups, ShowPlan, Test, verdict, preview_verdict, plan_named}
+use Rattle.dr_desk.specs.Verdicts.{Verdict, Refuse, ShowGroups, ShowPlan, Test, NotAsked, verdict, preview_verdict, plan_named}
 use Rattle.dr_desk.specs.Words.{IsCommand, IsFirstBadWord, is_report}
-use Rattle.dr_desk.proofs.ReadingLaws.{one_reading}
 use Rattle.dr_desk.proofs.WordsLaws.{no_bad_word, one_bad_word, one_command}
 
 -- a machine where there is none stands as before any run
@@ -52,11 +54,11 @@ due_of_verdict array_tells port_tells estate (Refuse refusal) old new said due i
 due_of_verdict array_tells port_tells estate ShowGroups old new said due is cause = cc is
 due_of_verdict array_tells port_tells estate (ShowPlan plan) old new said due is cause = cc is
 due_of_verdict array_tells port_tells estate (Test plan) old new said due is cause = cc is
+due_of_verdict array_tells port_tells estate NotAsked old new said due is cause = absurd cause
 
-due_of_reading : (array_tells port_tells : Type 0) (command : Command) (reading : Reading) (old new : Site) (said due : Said) → refusal_due reading old command ≡ Some due → ReadingCause array_tells port_tells command reading old new said → said ≡ due
-due_of_reading array_tells port_tells command (NoEstate fault) old new said due is cause = cause.told ∙ ap (λ o. elim o [ None ↦ due | Some s ↦ s ]) is
-due_of_reading array_tells port_tells command (Faulty estate fault) old new said due is cause = cause.told ∙ ap (λ o. elim o [ None ↦ due | Some s ↦ s ]) is
-due_of_reading array_tells port_tells command (Sound estate setting) old new said due is cause = due_of_verdict array_tells port_tells estate (verdict estate setting old command) old new said due is cause
+due_of_reading : (array_tells port_tells : Type 0) (command : Command) (reading : Result Declared DeclaredFault) (old new : Site) (said due : Said) → refusal_due reading old command ≡ Some due → ReadingCause array_tells port_tells command reading old new said → said ≡ due
+due_of_reading array_tells port_tells command (Ok declared) old new said due is cause = due_of_verdict array_tells port_tells declared.estate (verdict declared old command) old new said due is cause
+due_of_reading array_tells port_tells command (Err fault) old new said due is cause = cause.told ∙ ap (λ o. elim o [ None ↦ due | Some s ↦ s ]) is
 
 -- a site that wasn't touched keeps its protected side
 pub kept_at_rest : (array_tells port_tells : Type 0) (old new : Site) → new ≡ old → KeepsProtected array_tells port_tells old new
@@ -74,6 +76,7 @@ same_by_verdict array_tells port_tells estate (Refuse refusal) old new said caus
 same_by_verdict array_tells port_tells estate ShowGroups old new said cause = inl cause.same
 same_by_verdict array_tells port_tells estate (ShowPlan plan) old new said cause = inl cause.same
 same_by_verdict array_tells port_tells estate (Test plan) old new said cause = inr (plan, cause)
+same_by_verdict array_tells port_tells estate NotAsked old new said cause = absurd cause
 
 -- a preview touches nothing
 same_by_preview : (array_tells port_tells : Type 0) (estate : Estate) (name : List ℕ) (found : Option Plan) (old new : Site) (said : Said) → VerdictCause array_tells port_tells estate (preview_verdict name found) old new said → new ≡ old
@@ -81,12 +84,11 @@ same_by_preview array_tells port_tells estate name None old new said cause = cau
 same_by_preview array_tells port_tells estate name (Some plan) old new said cause = cause.same
 
 -- nor does any report
-same_by_report : (array_tells port_tells : Type 0) (command : Command) (reading : Reading) (old new : Site) (said : Said) → is_report command ≡ true → ReadingCause array_tells port_tells command reading old new said → new ≡ old
-same_by_report array_tells port_tells command (NoEstate fault) old new said is cause = cause.same
-same_by_report array_tells port_tells command (Faulty estate fault) old new said is cause = cause.same
-same_by_report array_tells port_tells Groups (Sound estate setting) old new said is cause = cause.same
-same_by_report array_tells port_tells (Preview name) (Sound estate setting) old new said is cause = same_by_preview array_tells port_tells estate name (plan_named setting name) old new said cause
-same_by_report array_tells port_tells command (Sound estate setting) old new said is cause = cc is
+same_by_report : (array_tells port_tells : Type 0) (command : Command) (reading : Result Declared DeclaredFault) (old new : Site) (said : Said) → is_report command ≡ true → ReadingCause array_tells port_tells command reading old new said → new ≡ old
+same_by_report array_tells port_tells command (Err fault) old new said is cause = cause.same
+same_by_report array_tells port_tells Groups (Ok declared) old new said is cause = cause.same
+same_by_report array_tells port_tells (Preview name) (Ok declared) old new said is cause = same_by_preview array_tells port_tells declared.estate name (plan_named declared.plans name) old new said cause
+same_by_report array_tells port_tells command (Ok declared) old new said is cause = cc is
 
 module _ (source_tells sink_tells array_tells port_tells : Type 0) (words : List (List ℕ)) (source : Received) (old new : Site) (sink : Sent) (status : ℕ) (marks : List ℕ) (a : Answers source_tells sink_tells array_tells port_tells words source old new sink status marks) where
   -- the site was not touched, or a plan was tested
@@ -102,10 +104,9 @@ module _ (source_tells sink_tells array_tells port_tells : Type 0) (words : List
     ]
   ]
     where
-      by_reading : (command : Command) (reading : Reading) → ReadingCause array_tells port_tells command reading old new a.said → (new ≡ old) ⊎ ((estate : Estate) × (plan : Plan) × IsTest array_tells port_tells estate plan old new a.said)
-      by_reading command (NoEstate fault) cause = inl cause.same
-      by_reading command (Faulty estate fault) cause = inl cause.same
-      by_reading command (Sound estate setting) cause = elim (same_by_verdict array_tells port_tells estate (verdict estate setting old command) old new a.said cause) [ inl same ↦ inl same | inr tested ↦ inr (estate, tested.0, tested.1) ]
+      by_reading : (command : Command) (reading : Result Declared DeclaredFault) → ReadingCause array_tells port_tells command reading old new a.said → (new ≡ old) ⊎ ((estate : Estate) × (plan : Plan) × IsTest array_tells port_tells estate plan old new a.said)
+      by_reading command (Err fault) cause = inl cause.same
+      by_reading command (Ok declared) cause = elim (same_by_verdict array_tells port_tells declared.estate (verdict declared old command) old new a.said cause) [ inl same ↦ inl same | inr tested ↦ inr (declared.estate, tested.0, tested.1) ]
 
   pub bad_words : (place : ℕ) → IsFirstBadWord words place → Gives sink_tells sink status (plain None (BadWords place)) ⊎ IsSilent sink_tells sink status
   bad_words place bad = elim a.is [
@@ -149,7 +150,7 @@ module _ (source_tells sink_tells array_tells port_tells : Type 0) (words : List
   ]
 
   -- what was said to this command about this input
-  module _ (t : source_tells) (command : Command) (is_command : IsCommand words command) (reading : Reading) (is_reading : IsReading (looked_at source.before) reading) where
+  module _ (t : source_tells) (command : Command) (is_command : IsCommand words command) (reading : Result Declared DeclaredFault) (is_reading : IsReading (looked_at source.before) reading) where
     located : IsReadFailed source old new a.said ⊎ OrLacked old new a.said (ReadingCause array_tells port_tells command reading old new a.said)
     located = elim a.is [
       | inl bad ↦ absurd (no_bad_word words command bad.place is_command bad.bad)
@@ -178,11 +179,11 @@ module _ (source_tells sink_tells array_tells port_tells : Type 0) (words : List
   -- what was said where the words and the input come to this
   module _ (t : source_tells) (estate : Estate) (wanted : Verdict) (comes : ComesTo words (looked_at source.before) old estate wanted) where
     pub come : IsReadFailed source old new a.said ⊎ OrLacked old new a.said (VerdictCause array_tells port_tells estate wanted old new a.said)
-    come = elim (located t comes.command comes.is_command (Sound estate comes.setting) comes.is_reading) [
+    come = elim (located t comes.command comes.is_command (Ok comes.declared) comes.declares) [
       | inl failed ↦ inl failed
       | inr rest ↦ elim rest [
         | inl lacked ↦ inr (inl lacked)
-        | inr cause ↦ inr (inr (subst (λ v. VerdictCause array_tells port_tells estate v old new a.said) comes.verdict_is cause))
+        | inr cause ↦ inr (inr (subst (λ e. VerdictCause array_tells port_tells e wanted old new a.said) comes.estate_is (subst (λ v. VerdictCause array_tells port_tells comes.declared.estate v old new a.said) comes.verdict_is cause)))
       ]
     ]
 

@@ -1,6 +1,6 @@
 -- A search of a list from its front.
 use Rattle.std.proofs.Common.{◌≡◌, refl, ℕ, zero, suc, ◌+◌, Bool, true, false, List, [], ◌∷◌, take}
-use Rattle.std.specs.Prelude.{find, cond, Option, Some, None, slice_get}
+use Rattle.std.specs.Prelude.{find, cond, Some, None, slice_get}
 use native.Mathlib.Numerals.{unary_clauses}
 
 module _ {X : Type 0} (p : X → Bool) where

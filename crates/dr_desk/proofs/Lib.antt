@@ -2,7 +2,6 @@ pub mod AnswerLaws
 pub mod CallLaws
 pub mod CauseLaws
 pub mod FindLaws
-pub mod ReadingLaws
 pub mod StreamsLaws
 pub mod TestableLaws
 pub mod WordsLaws

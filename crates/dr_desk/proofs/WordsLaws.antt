@@ -5,7 +5,7 @@ use Rattle.dr_base.specs.declared.command.Command.{Command}
 use Rattle.dr_base.specs.declared.command.Command.TheVariants.{Run, Preview, Groups}
 use Rattle.dr_base.specs.declared.command.Op.{Op}
 use Rattle.dr_base.specs.declared.command.RunWords.{RunWords}
-use Rattle.dr_desk.specs.Words.{IsCommand, IsFirstBadWord, IsOfWords, IsTest}
+use Rattle.dr_desk.specs.Words.{IsAsked, IsCommand, IsFirstBadWord, IsOfWords, IsTest}
 
 -- words of a command have no bad place
 pub no_bad_word : (words : List (List ℕ)) (command : Command) (place : ℕ) → IsCommand words command → IsFirstBadWord words place → ⊥
@@ -59,3 +59,13 @@ one_of_words words c d a b = absurd a
 -- the command is one
 pub one_command : (words : List (List ℕ)) (c d : Command) → IsCommand words c → IsCommand words d → c ≡ d
 one_command words c d a b = one_of_words words c d a.is b.is
+
+-- words ask for the command that they are
+asked : (words : List (List ℕ)) (command : Command) → IsOfWords words command → IsAsked command
+asked words (Run run) is = is.op
+asked words (Preview plan) is = tt
+asked words Groups is = tt
+asked words command is = absurd is
+
+pub is_asked : (words : List (List ℕ)) (command : Command) → IsCommand words command → IsAsked command
+is_asked words command is = asked words command is.is

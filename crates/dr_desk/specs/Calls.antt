@@ -1,30 +1,29 @@
 -- One call of the desk: what it answered, why, and what it told.
-use Rattle.std.specs.Prelude.{ℕ, ◌≡◌, ◌≢◌, ◌<◌, ◌≤◌, ◌⊎◌, Bool, true, false, ◌||◌, ◌==◌, List, [], ◌∷◌, ◌++◌, length, take, Option, Some, None}
+use Rattle.std.specs.Prelude.{ℕ, ◌≡◌, ◌<◌, ◌⊎◌, Bool, false, ◌||◌, ◌==◌, List, [], ◌∷◌, ◌++◌, length, take, Option, Some, None, Result, Ok, Err}
 use Rattle.dr_base.specs.declared.side.Side.{Side}
 use Rattle.dr_base.specs.Answers.{status_of}
 use Rattle.dr_base.specs.Causes.{Rose}
 use Rattle.dr_base.specs.declared.answer.Answer.{Answer}
-use Rattle.dr_base.specs.declared.answer.Answer.TheVariants.{BadWords, Estate as FaultyEstate, Refused, Shown, ReadFault, NoMemory}
+use Rattle.dr_base.specs.declared.answer.Answer.TheVariants.{BadWords, Refused, Shown, ReadFault, NoMemory}
 use Rattle.dr_base.specs.declared.command.Command.{Command}
 use Rattle.dr_inventory.specs.declared.estate.Estate.{Estate}
 use Rattle.dr_plan.specs.declared.plan.Plan.{Plan}
 use Rattle.dr_base.specs.declared.refusal.Refusal.TheVariants.{UnknownPlan}
-use Rattle.dr_setting.specs.declared.setting.Setting.{Setting}
-use Rattle.dr_setting.specs.declared.setting.SettingFault.{SettingFault}
-use Rattle.dr_setting.specs.declared.setting.SettingFault.TheVariants.{NoMemory as NoMemoryForSetting}
-use Rattle.dr_setting.specs.Settings.{IsSetting, IsFirstFault}
+use Rattle.dr_declared.specs.declared.contents.Declared.{Declared}
+use Rattle.dr_declared.specs.declared.contents.DeclaredFault.{DeclaredFault}
+use Rattle.dr_declared.specs.Contents.{Declares}
+use Rattle.dr_declared.specs.Faults.{IsReading}
 use Rattle.dr_outside.specs.Pairs.{Drift}
-use Rattle.dr_outside.specs.Arrays.{ArrayState, is_listed}
-use Rattle.dr_outside.specs.Machines.{PortState}
-use Rattle.dr_model.specs.Testing.{DriftsButSnapshot}
+use Rattle.dr_outside.specs.Arrays.{is_listed}
+use Rattle.dr_meaning.specs.Testing.{DriftsButSnapshot}
 use Rattle.dr_testing.specs.Placing.{is_planned}
 use Rattle.dr_testing.specs.Starts.{ChangesAtB}
 use Rattle.dr_testing.specs.Tests.{Site, HasOpeningPairs, HasOpeningMachines, AreInOrder, AreTestedPairs, AreTestedMachines, MachinesDone, PairsDone, KeepsPairs, KeepsMachines, RunCause}
 use Rattle.dr_report.specs.Texts.{answer_text_of}
 use Rattle.dr_report.specs.Reports.{TellsGroups, preview_text_of}
-use Rattle.dr_desk.specs.Readings.{Reading, IsReading, NoEstate, Faulty, Sound, fault_answer}
+use Rattle.dr_desk.specs.Faults.{fault_estate, fault_answer}
 use Rattle.dr_desk.specs.Streams.{looked_at}
-use Rattle.dr_desk.specs.Verdicts.{Verdict, verdict, Refuse, ShowGroups, ShowPlan, Test}
+use Rattle.dr_desk.specs.Verdicts.{Verdict, verdict, Refuse, ShowGroups, ShowPlan, Test, NotAsked}
 use Rattle.dr_desk.specs.Words.{IsCommand, IsFirstBadWord}
 
 -- what a source has left, and its count of faults, before and after a call
@@ -105,38 +104,21 @@ VerdictCause array_tells port_tells estate (Refuse refusal) old new said = SaysO
 VerdictCause array_tells port_tells estate ShowGroups old new said = ShowsOnly old new said (TellsGroups estate)
 VerdictCause array_tells port_tells estate (ShowPlan plan) old new said = ShowsOnly old new said (λ report. report ≡ preview_text_of estate plan)
 VerdictCause array_tells port_tells estate (Test plan) old new said = IsTest array_tells port_tells estate plan old new said
+VerdictCause array_tells port_tells estate NotAsked old new said = ⊥
 
--- what a command said and did, by what its input is
-abbrev pub ReadingCause : (array_tells port_tells : Type 0) → Command → Reading → Site → Site → Said → Type 0
-ReadingCause array_tells port_tells command (NoEstate fault) old new said = SaysOnly old new said (plain None (FaultyEstate fault))
-ReadingCause array_tells port_tells command (Faulty estate fault) old new said = SaysOnly old new said (plain (Some estate) (fault_answer fault))
-ReadingCause array_tells port_tells command (Sound estate setting) old new said = VerdictCause array_tells port_tells estate (verdict estate setting old command) old new said
+-- what a command said and did, by what its input declares, or what is wrong with it
+abbrev pub ReadingCause : (array_tells port_tells : Type 0) → Command → Result Declared DeclaredFault → Site → Site → Said → Type 0
+ReadingCause array_tells port_tells command (Ok declared) old new said = VerdictCause array_tells port_tells declared.estate (verdict declared old command) old new said
+ReadingCause array_tells port_tells command (Err fault) old new said = SaysOnly old new said (plain (fault_estate fault) (fault_answer fault))
 
 -- what a preview under this name said
 abbrev pub PreviewCause : Estate → List ℕ → Option Plan → Said → Type 0
 PreviewCause estate name None said = said ≡ plain (Some estate) (Refused (UnknownPlan name))
 PreviewCause estate name (Some plan) said = IsShown (λ report. report ≡ preview_text_of estate plan) said
 
--- what was said to a command about this estate, by what is wrong with it beside its own rules
-pub record IsAboutFault (estate : Estate) (old new : Site) (said : Said) : Type 0 where
-  pub fault : SettingFault
-  pub is_fault : IsFirstFault estate fault × (fault ≢ NoMemoryForSetting)
-  pub says : SaysOnly old new said (plain (Some estate) (fault_answer fault))
-
--- the same, where nothing is wrong with it
-pub record IsAboutSetting (array_tells port_tells : Type 0) (command : Command) (estate : Estate) (old new : Site) (said : Said) : Type 0 where
-  pub setting : Setting
-  pub is_setting : IsSetting estate setting
-  pub cause : VerdictCause array_tells port_tells estate (verdict estate setting old command) old new said
-
--- what was said to a command about this estate
-abbrev pub EstateCause : (array_tells port_tells : Type 0) → Command → Estate → Site → Site → Said → Type 0
-EstateCause array_tells port_tells command estate old new said =
-    IsAboutFault estate old new said ⊎ IsAboutSetting array_tells port_tells command estate old new said
-
 -- the input was read
 pub record IsInputAnswer (array_tells port_tells : Type 0) (command : Command) (input : List ℕ) (old new : Site) (said : Said) : Type 0 where
-  pub reading : Reading
+  pub reading : Result Declared DeclaredFault
   pub is_reading : IsReading input reading
   pub cause : ReadingCause array_tells port_tells command reading old new said
 
@@ -238,19 +220,19 @@ abbrev pub verdict_refusal : Estate → Verdict → Option Said
 verdict_refusal estate (Refuse refusal) = Some (plain (Some estate) (Refused refusal))
 verdict_refusal estate _ = None
 
--- the refusal that is due: of an input that is no estate, of a fault of its groups, plans or maps, or of the command
-abbrev pub refusal_due : Reading → Site → Command → Option Said
-refusal_due (NoEstate fault) site command = Some (plain None (FaultyEstate fault))
-refusal_due (Faulty estate fault) site command = Some (plain (Some estate) (fault_answer fault))
-refusal_due (Sound estate setting) site command = verdict_refusal estate (verdict estate setting site command)
+-- the refusal that is due: of an input with a fault, or of the command
+abbrev pub refusal_due : Result Declared DeclaredFault → Site → Command → Option Said
+refusal_due (Ok declared) site command = verdict_refusal declared.estate (verdict declared site command)
+refusal_due (Err fault) site command = Some (plain (fault_estate fault) (fault_answer fault))
 
--- the words are this command, and the input is this estate, with what its groups hold and its plans; this is what it comes to
+-- the words are this command, and the input declares this estate; this is what it comes to
 pub record ComesTo (words : List (List ℕ)) (input : List ℕ) (site : Site) (estate : Estate) (wanted : Verdict) : Type 0 where
   pub command : Command
   pub is_command : IsCommand words command
-  pub setting : Setting
-  pub is_reading : IsReading input (Sound estate setting)
-  pub verdict_is : verdict estate setting site command ≡ wanted
+  pub declared : Declared
+  pub declares : Declares input declared
+  pub estate_is : declared.estate ≡ estate
+  pub verdict_is : verdict declared site command ≡ wanted
 
 -- the words and the input ask for a test of this plan, and nothing refuses it
 abbrev pub AsksToTest : List (List ℕ) → List ℕ → Site → Estate → Plan → Type 0

@@ -1,5 +1,5 @@
 pub mod Calls
-pub mod Readings
+pub mod Faults
 pub mod Rooms
 pub mod Streams
 pub mod Verdicts

@@ -1,12 +1,12 @@
 -- What a command comes to, where nothing is wrong with the estate and its plans.
-use Rattle.std.specs.Prelude.{ℕ, Bool, false, not, ◌||◌, nat_lt, if◌then◌else◌, is_some, is_none, List, [], find, slice_get, bytes_eq, length, Option, Some, None}
+use Rattle.std.specs.Prelude.{ℕ, Bool, false, ◌||◌, nat_lt, if◌then◌else◌, is_some, List, find, slice_get, bytes_eq, length, Option, Some, None}
 use Rattle.std.specs.List.{list_any}
-use Rattle.dr_base.specs.declared.side.Side.{Side}
 use Rattle.dr_base.specs.declared.side.Side.TheVariants.{B}
 use Rattle.dr_base.specs.Sides.{same_side}
 use Rattle.dr_base.specs.declared.command.Command.{Command}
 use Rattle.dr_base.specs.declared.command.Command.TheVariants.{Run, Preview, Groups}
-use Rattle.dr_base.specs.declared.command.RunWords.{RunWords}
+use Rattle.dr_base.specs.declared.command.Op.{Op}
+use Rattle.dr_base.specs.declared.command.Op.TheVariants.{Testing}
 use Rattle.dr_base.specs.declared.refusal.Refusal.{Refusal}
 use Rattle.dr_base.specs.declared.refusal.Refusal.TheVariants.{UnknownPlan, NotBuilt, NoSlot}
 use Rattle.dr_base.specs.declared.refusal.SlotKind.TheVariants.{Machines, Pairs}
@@ -14,13 +14,12 @@ use Rattle.dr_inventory.specs.declared.estate.GroupRow.{GroupRow}
 use Rattle.dr_inventory.specs.declared.estate.Estate.{Estate}
 use Rattle.dr_plan.specs.declared.plan.PlanMachine.{PlanMachine}
 use Rattle.dr_plan.specs.declared.plan.Plan.{Plan}
-use Rattle.dr_setting.specs.declared.setting.Setting.{Setting}
-use Rattle.dr_outside.specs.Arrays.{ArrayState}
+use Rattle.dr_declared.specs.declared.contents.Declared.{Declared}
 use Rattle.dr_testing.specs.Tests.{Site}
 
 -- the plan of this name
-abbrev pub plan_named : Setting → List ℕ → Option Plan
-plan_named setting name = find (λ p. bytes_eq p.name name) setting.plans
+abbrev pub plan_named : List Plan → List ℕ → Option Plan
+plan_named plans name = find (λ p. bytes_eq p.name name) plans
 
 -- whether a group's row protects B
 abbrev pub row_protects_b : Option GroupRow → Bool
@@ -49,6 +48,8 @@ pub data Verdict : Type 0 where
   ShowPlan : (plan : Plan) → Verdict
   -- this plan is tested
   Test : (plan : Plan) → Verdict
+  -- no words ask for it yet
+  NotAsked : Verdict
 
 -- a test of a plan that needs nothing unbuilt is refused where the site has too few machines for the estate, then where it has too few pairs
 abbrev pub slots_verdict : Estate → Plan → Site → Verdict
@@ -66,11 +67,17 @@ abbrev pub preview_verdict : List ℕ → Option Plan → Verdict
 preview_verdict name None = Refuse (UnknownPlan name)
 preview_verdict name (Some plan) = ShowPlan plan
 
--- what each command comes to; a run is a test, and other commands aren't read
-abbrev pub verdict : Estate → Setting → Site → Command → Verdict
-verdict estate setting site (Run run) = test_verdict estate run.plan site (plan_named setting run.plan)
-verdict estate setting site (Preview name) = preview_verdict name (plan_named setting name)
-verdict estate setting site _ = ShowGroups
+-- what a run of this operation comes to: of all operations only a test is asked for yet
+abbrev pub run_verdict : Declared → Site → List ℕ → Op → Verdict
+run_verdict declared site name Testing = test_verdict declared.estate name site (plan_named declared.plans name)
+run_verdict declared site name _ = NotAsked
+
+-- what each command comes to
+abbrev pub verdict : Declared → Site → Command → Verdict
+verdict declared site (Run run) = run_verdict declared site run.plan run.op
+verdict declared site (Preview name) = preview_verdict name (plan_named declared.plans name)
+verdict declared site Groups = ShowGroups
+verdict declared site _ = NotAsked
 
 -- refusals that hold no number that must be the estate's
 abbrev pub IsPlainRefusal : Refusal → Type 0

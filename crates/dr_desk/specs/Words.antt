@@ -57,6 +57,13 @@ pub record IsCommand (words : List (List ℕ)) (command : Command) : Type 0 wher
   pub form : AreCommandWords words
   pub is : IsOfWords words command
 
+-- words ask for this command: a test, a preview, or the datastore groups
+abbrev pub IsAsked : Command → Type 0
+IsAsked (Run run) = run.op ≡ Testing
+IsAsked (Preview plan) = Unit {0}
+IsAsked Groups = Unit {0}
+IsAsked _ = ⊥
+
 -- whether a command asks for a report
 abbrev pub is_report : Command → Bool
 is_report (Preview plan) = true

@@ -2,24 +2,25 @@
 
 ghost use Rattle.std.specs.Prelude.{◌≡◌, ◌≤◌, ℕ, [], map, string_bytes, vec_capacity, Some};
 ghost use Rattle.dr_base.specs.declared.answer.Answer.TheVariants as answers;
-ghost use Rattle.dr_inventory.specs.Sound.{IsSound};
-ghost use Rattle.dr_setting.specs.Settings.{IsSetting};
+ghost use Rattle.dr_base.specs.declared.command.Op.TheVariants.{Testing};
+ghost use Rattle.dr_declared.specs.Contents.{IsDeclared};
 ghost use Rattle.dr_testing.specs.Tests.{site, IsTestable};
-ghost use Rattle.dr_desk.specs.Calls.{received, said_by, plain, EstateCause, IsAnswer, IsInputAnswer, OrLacked, OrLacks, PreviewCause, VerdictCause};
-ghost use Rattle.dr_desk.specs.Readings.{fault_answer, text_fault_answer};
+ghost use Rattle.dr_report.specs.Conditions.{HidesNoAnswer, HoldsNumbersOf};
+ghost use Rattle.dr_desk.specs.Calls.{received, said_by, plain, IsAnswer, IsInputAnswer, OrLacked, OrLacks, PreviewCause, VerdictCause};
+ghost use Rattle.dr_desk.specs.Faults.{fault_answer, fault_estate, protection_answer};
 ghost use Rattle.dr_desk.specs.Streams.{ReadsNoFurther};
 ghost use Rattle.dr_desk.specs.Verdicts as verdicts;
-ghost use Rattle.dr_desk.specs.Words.{IsFirstBadWord};
+ghost use Rattle.dr_desk.specs.Words.{IsAsked, IsFirstBadWord};
 
 use crate::input::{ReadFail, read_input};
 use crate::plans::{needs_unbuilt, plan_named};
 use crate::telling::{show_groups, show_plan, tell};
 use crate::words::read_words;
-use dr_base::{Answer, Command, EstateFault, Name, Refusal, Source};
-use dr_inventory::{Estate, read_estate};
+use dr_base::{Answer, Command, Name, Op, Refusal, RunWords, Source};
+use dr_declared::{Declared, DeclaredFault, ProtectionFault, read_declared};
+use dr_inventory::Estate;
 use dr_outside::{Array, Port};
 use dr_plan::Plan;
-use dr_setting::{Setting, SettingFault, read_setting};
 use dr_testing::test_plan;
 use std::alloc::Global;
 
@@ -59,26 +60,25 @@ fn refuse(estate: &Estate, refusal: Refusal, text: &mut Vec<u8>) -> Answer
 // Tests the plan of this name.
 fn answer_test<A: Array, P: Port>(
     alloc: Global,
-    estate: &Estate,
-    setting: &Setting,
+    declared: &Declared,
     name: Name,
     array: &mut A,
     ports: &mut [P],
     text: &mut Vec<u8>,
 ) -> Answer
-    requires sound { IsSound estate.now }
-    requires setting { IsSetting estate.now setting.now }
+    requires declared { IsDeclared declared.now }
     requires empty { text.old.items ≡ [] }
     requires room { 1024 ≤ vec_capacity text.old }
     ensures { OrLacked (site A.state P.state array.old ports.old) (site A.state P.state array.new ports.new)
         (said_by result text.new.items)
-        (VerdictCause A.tells P.tells estate.now
-        (verdicts.test_verdict estate.now name (site A.state P.state array.old ports.old)
-        (verdicts.plan_named setting.now name))
+        (VerdictCause A.tells P.tells declared.now.estate
+        (verdicts.test_verdict declared.now.estate name (site A.state P.state array.old ports.old)
+        (verdicts.plan_named declared.now.plans name))
         (site A.state P.state array.old ports.old) (site A.state P.state array.new ports.new)
         (said_by result text.new.items)) }
 {
-    let Some(plan) = plan_named(setting, &name) else {
+    let estate = &declared.estate;
+    let Some(plan) = plan_named(declared.plans.as_slice(), &name) else {
         return refuse(estate, Refusal::UnknownPlan(name), text);
     };
     if needs_unbuilt(estate, plan) {
@@ -87,98 +87,110 @@ fn answer_test<A: Array, P: Port>(
     answer_built(alloc, estate, plan, array, ports, text)
 }
 
-// Shows the order of start-up of the plan of this name.
-fn answer_preview(
+// Does a run: of all operations only a test is asked for yet.
+fn answer_run<A: Array, P: Port>(
     alloc: Global,
-    estate: &Estate,
-    setting: &Setting,
-    name: Name,
+    declared: &Declared,
+    run: &RunWords,
+    array: &mut A,
+    ports: &mut [P],
     text: &mut Vec<u8>,
 ) -> Answer
-    requires sound { IsSound estate.now }
-    requires setting { IsSetting estate.now setting.now }
+    requires asked { run.now.op ≡ Testing }
+    requires declared { IsDeclared declared.now }
+    requires empty { text.old.items ≡ [] }
+    requires room { 1024 ≤ vec_capacity text.old }
+    ensures { OrLacked (site A.state P.state array.old ports.old) (site A.state P.state array.new ports.new)
+        (said_by result text.new.items)
+        (VerdictCause A.tells P.tells declared.now.estate
+        (verdicts.run_verdict declared.now (site A.state P.state array.old ports.old) run.now.plan run.now.op)
+        (site A.state P.state array.old ports.old) (site A.state P.state array.new ports.new)
+        (said_by result text.new.items)) }
+{
+    match run.op {
+        Op::Testing => answer_test(alloc, declared, run.plan, array, ports, text),
+        Op::Cleanup | Op::Migrate | Op::Failover | Op::Reprotect => unreachable!(),
+    }
+}
+
+// Shows the order of start-up of the plan of this name.
+fn answer_preview(alloc: Global, declared: &Declared, name: Name, text: &mut Vec<u8>) -> Answer
+    requires declared { IsDeclared declared.now }
     requires empty { text.old.items ≡ [] }
     requires room { 1024 ≤ vec_capacity text.old }
     ensures { OrLacks (said_by result text.new.items)
-        (PreviewCause estate.now name (verdicts.plan_named setting.now name) (said_by result text.new.items)) }
+        (PreviewCause declared.now.estate name (verdicts.plan_named declared.now.plans name)
+        (said_by result text.new.items)) }
 {
-    match plan_named(setting, &name) {
+    let estate = &declared.estate;
+    match plan_named(declared.plans.as_slice(), &name) {
         Some(plan) => show_plan(alloc, estate, plan, text),
         None => refuse(estate, Refusal::UnknownPlan(name), text),
     }
 }
 
-// Does what a command asks of an estate without any fault.
+// Does what a command asks of what the input declares.
 fn answer_command<A: Array, P: Port>(
     alloc: Global,
     command: &Command,
-    estate: &Estate,
-    setting: &Setting,
+    declared: &Declared,
     array: &mut A,
     ports: &mut [P],
     text: &mut Vec<u8>,
 ) -> Answer
-    requires sound { IsSound estate.now }
-    requires setting { IsSetting estate.now setting.now }
+    requires asked { IsAsked command.now }
+    requires declared { IsDeclared declared.now }
     requires empty { text.old.items ≡ [] }
     requires room { 1024 ≤ vec_capacity text.old }
     ensures { OrLacked (site A.state P.state array.old ports.old) (site A.state P.state array.new ports.new)
         (said_by result text.new.items)
-        (VerdictCause A.tells P.tells estate.now
-        (verdicts.verdict estate.now setting.now (site A.state P.state array.old ports.old) command.now)
+        (VerdictCause A.tells P.tells declared.now.estate
+        (verdicts.verdict declared.now (site A.state P.state array.old ports.old) command.now)
         (site A.state P.state array.old ports.old) (site A.state P.state array.new ports.new)
         (said_by result text.new.items)) }
 {
     match command {
-        Command::Run(run) => answer_test(alloc, estate, setting, run.plan, array, ports, text),
-        Command::Preview(name) => answer_preview(alloc, estate, setting, *name, text),
-        _ => show_groups(alloc, estate, text),
+        Command::Run(run) => answer_run(alloc, declared, run, array, ports, text),
+        Command::Preview(name) => answer_preview(alloc, declared, *name, text),
+        Command::Groups => show_groups(alloc, &declared.estate, text),
+        Command::Load
+        | Command::Amend
+        | Command::Close(_, _)
+        | Command::Reply(_, _, _)
+        | Command::Show
+        | Command::History
+        | Command::Session
+        | Command::Http
+        | Command::Lab(_, _) => unreachable!(),
     }
 }
 
-// The answer to an estate with a fault.
-fn fault_answer(fault: SettingFault) -> Answer
-    ensures { result ≡ fault_answer fault }
+// The answer to an estate whose protection has a fault.
+fn protection_answer(fault: ProtectionFault) -> Answer
+    ensures { result ≡ protection_answer fault }
 {
     match fault {
-        SettingFault::Groups(fault) => Answer::Groups(fault),
-        SettingFault::Plan(name, fault) => Answer::Plan(name, fault),
-        SettingFault::Unmapped(unmapped) => Answer::Unmapped(unmapped),
-        SettingFault::NoMemory => Answer::NoMemory,
+        ProtectionFault::Groups(fault) => Answer::Groups(fault),
+        ProtectionFault::Plan(name, fault) => Answer::Plan(name, fault),
+        ProtectionFault::Unmapped(unmapped) => Answer::Unmapped(unmapped),
     }
 }
 
-// Does what a command asks of an estate.
-fn answer_estate<A: Array, P: Port>(
-    alloc: Global,
-    command: &Command,
-    estate: &Estate,
-    array: &mut A,
-    ports: &mut [P],
-    text: &mut Vec<u8>,
-) -> Answer
-    requires sound { IsSound estate.now }
+// Tells what is wrong with an input, by the names of its estate.
+fn tell_fault(fault: DeclaredFault, text: &mut Vec<u8>) -> Answer
     requires empty { text.old.items ≡ [] }
     requires room { 1024 ≤ vec_capacity text.old }
-    ensures { OrLacked (site A.state P.state array.old ports.old) (site A.state P.state array.new ports.new)
-        (said_by result text.new.items)
-        (EstateCause A.tells P.tells command.now estate.now
-        (site A.state P.state array.old ports.old) (site A.state P.state array.new ports.new)
-        (said_by result text.new.items)) }
-{
-    match read_setting(alloc, estate) {
-        Ok(setting) => answer_command(alloc, command, estate, &setting, array, ports, text),
-        Err(fault) => tell(Some(estate), fault_answer(fault), text),
-    }
-}
-
-// The answer to an input that is no estate.
-fn text_fault_answer(fault: EstateFault) -> Answer
-    ensures { result ≡ text_fault_answer fault }
+    requires numbers { HoldsNumbersOf (fault_estate fault) (fault_answer fault) }
+    requires plain { HidesNoAnswer (fault_answer fault) }
+    ensures { OrLacks (said_by result text.new.items)
+        (said_by result text.new.items ≡ plain (fault_estate fault) (fault_answer fault)) }
 {
     match fault {
-        EstateFault::NoMemory => Answer::NoMemory,
-        fault => Answer::Estate(fault),
+        DeclaredFault::Estate(fault) => tell(None, Answer::Estate(fault), text),
+        DeclaredFault::Protection(estate, fault) => {
+            tell(Some(&estate), protection_answer(fault), text)
+        }
+        DeclaredFault::NoMemory => tell(None, Answer::NoMemory, text),
     }
 }
 
@@ -191,6 +203,7 @@ fn answer_input<A: Array, P: Port>(
     ports: &mut [P],
     text: &mut Vec<u8>,
 ) -> Answer
+    requires asked { IsAsked command.now }
     requires empty { text.old.items ≡ [] }
     requires room { 1024 ≤ vec_capacity text.old }
     ensures { OrLacked (site A.state P.state array.old ports.old) (site A.state P.state array.new ports.new)
@@ -199,9 +212,9 @@ fn answer_input<A: Array, P: Port>(
         (site A.state P.state array.old ports.old) (site A.state P.state array.new ports.new)
         (said_by result text.new.items)) }
 {
-    match read_estate(alloc, input) {
-        Ok(estate) => answer_estate(alloc, command, &estate, array, ports, text),
-        Err(fault) => tell(None, text_fault_answer(fault), text),
+    match read_declared(alloc, input) {
+        Ok(declared) => answer_command(alloc, command, &declared, array, ports, text),
+        Err(fault) => tell_fault(fault, text),
     }
 }
 

@@ -7,13 +7,12 @@ ghost use Rattle.dr_desk.specs.Verdicts.{has_command, needs_unbuilt, plan_named,
 use dr_base::{Name, Side};
 use dr_inventory::Estate;
 use dr_plan::{Plan, PlanMachine};
-use dr_setting::Setting;
 
 /// The plan of this name.
-pub(crate) fn plan_named<'a>(setting: &'a Setting, name: &Name) -> Option<&'a Plan>
-    ensures { option_copied result ≡ plan_named setting.now name.now }
+pub(crate) fn plan_named<'a>(plans: &'a [Plan], name: &Name) -> Option<&'a Plan>
+    ensures { option_copied result ≡ plan_named plans.now name.now }
 {
-    for plan in setting.plans.as_slice() {
+    for plan in plans {
         if plan.name == *name {
             return Some(plan);
         }

@@ -1,13 +1,15 @@
-ghost use Rattle.std.specs.Prelude.{◌≡◌, ◌⊎◌, ◌≤◌, ℕ, [], ◌∷◌, Some, None, true, length, map, string_bytes, vec_capacity};
+ghost use Rattle.std.specs.Prelude.{◌≡◌, ◌⊎◌, ◌≤◌, ℕ, [], ◌∷◌, Some, None, true, length, map, string_bytes, vec_capacity, Result};
 ghost use Rattle.dr_base.specs.declared.answer.Answer.TheVariants.{BadWords, Done};
 ghost use Rattle.dr_base.specs.declared.command.Command.{Command};
 ghost use Rattle.dr_inventory.specs.declared.estate.Estate.{Estate};
 ghost use Rattle.dr_plan.specs.declared.plan.Plan.{Plan};
+ghost use Rattle.dr_declared.specs.declared.contents.Declared.{Declared};
+ghost use Rattle.dr_declared.specs.declared.contents.DeclaredFault.{DeclaredFault};
+ghost use Rattle.dr_declared.specs.Faults.{IsReading};
 ghost use Rattle.dr_outside.specs.Machines.{machine_at};
 ghost use Rattle.dr_testing.specs.Tests.{site, AreInOrder, AreTestedByGroup, AreTestedPairs, HasOpeningPairs, HasOpeningMachines};
 ghost use Rattle.dr_report.specs.Reports.{TellsGroups, preview_text_of};
 ghost use Rattle.dr_desk.specs.Calls.{received, sent, said_by, plain, refusal_due, Said, Answered, Answers, AsksToTest, ComesTo, Gives, IsSilent, IsTested, KeepsOthers, KeepsProtected, LacksMemory, NoneRose, Says, Shows, is_refusal};
-ghost use Rattle.dr_desk.specs.Readings.{Reading, IsReading};
 ghost use Rattle.dr_desk.specs.Rooms.{IsRoom};
 ghost use Rattle.dr_desk.specs.Streams.{looked_at, ReadsNoFurther};
 ghost use Rattle.dr_desk.specs.Verdicts.{ShowGroups, ShowPlan};
@@ -121,7 +123,7 @@ pub fn desk<A: Array, P: Port, S: Source, K: Sink>(
     // The refusal that is due comes: the first fault of the estate, of its groups, plans and maps; an
     // unknown plan; a plan that needs what isn't built; too few machines, too few pairs.
     ensures refused { S.tells → (command : Command) → IsCommand (map string_bytes words.now) command
-        → (reading : Reading) → IsReading (looked_at (S.left source.old)) reading
+        → (reading : Result Declared DeclaredFault) → IsReading (looked_at (S.left source.old)) reading
         → (due : Said) → refusal_due reading (site A.state P.state array.old ports.old.items) command ≡ Some due
         → Says K.tells (received S.left S.faults source.old source.new)
         (sent K.taken K.faults sink.old sink.new) result.status due }

@@ -2,16 +2,16 @@
 use Rattle.std.specs.Prelude.{◌≡◌, ◌↔◌, ◌⊎◌, Bool, true, false, List, [], IsTrue, Result, Ok, Err, IfOk}
 use Rattle.std.proofs.Common.{Vec, Global}
 use Rattle.dr_base.specs.declared.failure.NoMemory.{NoMemory}
-use Rattle.dr_model.specs.Expected.{LeavesFrame}
-use Rattle.dr_model.specs.Reach.{ReachFrame}
+use Rattle.dr_meaning.specs.Expected.{LeavesFrame}
+use Rattle.dr_meaning.specs.Reach.{ReachFrame}
 use Rattle.std.specs.Bool.{MatchBool}
-use Rattle.dr_model.specs.Types.{Op}
+use Rattle.dr_meaning.specs.Types.{Op}
 use Rattle.std.proofs.Common.{refl, sym, ap, ◌∙◌, inl, inr}
 use Rattle.dr_outside.specs.Pairs.{Frame as FrameValue}
-use Rattle.dr_model.specs.declared.stage.StageKind.{StageKind}
-use Rattle.dr_model.specs.Runs.{Run, op, is_finished}
-use Rattle.dr_model.specs.Outcomes.{made_frame, split_frame, frozen_frame, FrameOutcome}
-use Rattle.dr_model.specs.Meaning.{MeansFrame, FrameMeaning, is_prepare_skipped}
+use Rattle.dr_meaning.specs.declared.stage.StageKind.{StageKind}
+use Rattle.dr_meaning.specs.Runs.{Run, op, is_finished}
+use Rattle.dr_meaning.specs.Outcomes.{made_frame, split_frame, frozen_frame, FrameOutcome}
+use Rattle.dr_meaning.specs.Meaning.{MeansFrame, FrameMeaning, is_prepare_skipped}
 use Rattle.dr_expected.specs.declared.frames.Frame.{Frame}
 use Rattle.dr_expected.specs.Frames.{frame_value}
 use Rattle.dr_expected.specs.Expecting.{Lists, Gains, Adds, Leads, IsFrame, FrameOver, meant_frame, may_skip}

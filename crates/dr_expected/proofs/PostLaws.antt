@@ -7,16 +7,16 @@ use Rattle.dr_base.specs.declared.failure.NoMemory.{NoMemory}
 use Rattle.dr_base.specs.Sides.{same_side}
 use Rattle.dr_mappings.specs.Placements.{place_of, placed, network_at, folder_at, pool_at, network_in}
 use Rattle.std.proofs.lemmas.Option.{slice_get_past}
-use Rattle.dr_model.specs.Stages.{stage_at}
-use Rattle.dr_model.specs.Visits.{Visit}
-use Rattle.dr_model.specs.Runs.{Run, op, stages_of, is_finished}
-use Rattle.dr_model.specs.Reach.{works, is_complete, PostStep, ReachPost}
-use Rattle.dr_model.specs.Meaning.{MeansPost, OldPostMeaning, NewPostMeaning, is_stop_skipped, is_left}
+use Rattle.dr_meaning.specs.Stages.{stage_at}
+use Rattle.dr_meaning.specs.Visits.{Visit}
+use Rattle.dr_meaning.specs.Runs.{Run, op, stages_of, is_finished}
+use Rattle.dr_meaning.specs.Reach.{works, is_complete, PostStep, ReachPost}
+use Rattle.dr_meaning.specs.Meaning.{MeansPost, OldPostMeaning, NewPostMeaning, is_stop_skipped, is_left}
 use Rattle.std.proofs.Common.{refl, sym, ap, ◌∙◌, inl, inr, subst}
-use Rattle.dr_model.specs.Types.{Side, Op, Estate, Placed, Post}
-use Rattle.dr_model.specs.declared.stage.StageKind.{StageKind}
-use Rattle.dr_model.specs.Outcomes.{IsOneOf, stopped, made_post, start_leaves, failure_leaves, PostOutcome}
-use Rattle.dr_model.specs.Expected.{no_place, given, LeavesPost}
+use Rattle.dr_meaning.specs.Types.{Side, Op, Estate, Placed, Post}
+use Rattle.dr_meaning.specs.declared.stage.StageKind.{StageKind}
+use Rattle.dr_meaning.specs.Outcomes.{IsOneOf, stopped, made_post, start_leaves, failure_leaves, PostOutcome}
+use Rattle.dr_meaning.specs.Expected.{no_place, given, LeavesPost}
 use Rattle.dr_expected.proofs.ShownLaws.{adds-one, leads-same, shows-push}
 use Rattle.dr_expected.specs.declared.posts.Wanted.{Wanted}
 use Rattle.dr_expected.specs.declared.posts.Spot.{Spot}

@@ -5,11 +5,11 @@ use Rattle.std.proofs.Common.{refl, sym, ap, ◌∙◌, inl, inr, subst, get_or,
 use Rattle.std.proofs.lemmas.List.Elements.{Contains-append_left, Contains-push, Contains-push_cases}
 use Rattle.std.proofs.lemmas.List.{take_more, take_all}
 use Rattle.std.proofs.lemmas.List.Sorted.{list_any-IsPermutation, IsPermutation-reverse}
-use Rattle.dr_model.specs.Stages.{has}
-use Rattle.dr_model.specs.Visits.{Visit, is_excused}
-use Rattle.dr_model.specs.Runs.{Run, holds}
-use Rattle.dr_model.specs.Expected.{After}
-use Rattle.dr_model.specs.Reach.{Through}
+use Rattle.dr_meaning.specs.Stages.{has}
+use Rattle.dr_meaning.specs.Visits.{Visit, is_excused}
+use Rattle.dr_meaning.specs.Runs.{Run, holds}
+use Rattle.dr_meaning.specs.Expected.{After}
+use Rattle.dr_meaning.specs.Reach.{Through}
 use Rattle.dr_replay.specs.declared.visiting.Visit.{Visit as VisitValue}
 use Rattle.dr_replay.specs.Values.{run_of, runs_told, visit_of, visits_told}
 use Rattle.dr_replay.specs.declared.runs.Run.{Run as RunValue}

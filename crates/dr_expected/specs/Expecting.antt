@@ -1,12 +1,12 @@
 -- Lists that hold all that is expected.
 use Rattle.std.specs.Prelude.{◌≡◌, ◌↔◌, ◌⊎◌, Bool, true, false, None, List, Contains}
 use Rattle.std.specs.Bool.{MatchBool}
-use Rattle.dr_model.specs.declared.stage.StageKind.{StageKind}
-use Rattle.dr_model.specs.Types.{Op}
-use Rattle.dr_model.specs.Runs.{Run, number}
-use Rattle.dr_model.specs.Testing.{with_snapshot}
-use Rattle.dr_model.specs.Outcomes.{made_frame, split_frame, frozen_frame, reversed_frame, FrameOutcome}
-use Rattle.dr_model.specs.Meaning.{is_prepare_skipped}
+use Rattle.dr_meaning.specs.declared.stage.StageKind.{StageKind}
+use Rattle.dr_meaning.specs.Types.{Op}
+use Rattle.dr_meaning.specs.Runs.{Run, number}
+use Rattle.dr_meaning.specs.Testing.{with_snapshot}
+use Rattle.dr_meaning.specs.Outcomes.{made_frame, split_frame, frozen_frame, reversed_frame, FrameOutcome}
+use Rattle.dr_meaning.specs.Meaning.{is_prepare_skipped}
 use Rattle.dr_outside.specs.Pairs.{Frame as FrameValue}
 use Rattle.dr_expected.specs.declared.frames.Frame.{Frame}
 use Rattle.dr_expected.specs.Frames.{frame_value}

@@ -2,12 +2,12 @@
 use Rattle.std.specs.Prelude.{◌≡◌, ◌↔◌, ◌⊎◌, Bool, true, false, ◌||◌, not, List, [], ◌∷◌, Option, Some, None, ℕ, if◌then◌else◌}
 use Rattle.std.specs.Bool.{MatchBool}
 use Rattle.dr_base.specs.Sides.{same_side}
-use Rattle.dr_model.specs.Types.{Side, Op, Placement, Placed, Post}
-use Rattle.dr_model.specs.declared.stage.StageKind.{StageKind}
-use Rattle.dr_model.specs.Runs.{Run, op}
-use Rattle.dr_model.specs.Outcomes.{made_post, PostOutcome}
-use Rattle.dr_model.specs.Meaning.{is_stop_skipped, is_left}
-use Rattle.dr_model.specs.Expected.{no_place}
+use Rattle.dr_meaning.specs.Types.{Side, Op, Placement, Placed, Post}
+use Rattle.dr_meaning.specs.declared.stage.StageKind.{StageKind}
+use Rattle.dr_meaning.specs.Runs.{Run, op}
+use Rattle.dr_meaning.specs.Outcomes.{made_post, PostOutcome}
+use Rattle.dr_meaning.specs.Meaning.{is_stop_skipped, is_left}
+use Rattle.dr_meaning.specs.Expected.{no_place}
 use Rattle.dr_expected.specs.declared.posts.Wanted.{Wanted}
 use Rattle.dr_expected.specs.declared.posts.Spot.{Spot}
 use Rattle.dr_expected.specs.declared.posts.Standing.{Standing}

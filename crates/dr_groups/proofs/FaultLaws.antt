@@ -1,10 +1,11 @@
 -- There is one first fault at most.
-use Rattle.std.proofs.Common.{◌≡◌, ◌∙◌, ℕ, inl, inr, refl, sym, ap, subst, arith, slice_get}
+use Rattle.std.proofs.Common.{◌≡◌, ◌∙◌, ℕ, inl, inr, refl, sym, ap, subst, arith, get_or, slice_get}
 use Rattle.std.proofs.lemmas.Bool.{cases_lt}
+use Rattle.std.proofs.lemmas.List.Elements.{Contains-get_or}
 use Rattle.dr_base.specs.declared.group_fault.GroupFault.{GroupFault}
 use Rattle.dr_base.specs.declared.group_fault.GroupFault.TheVariants.{NotClosed, InTwo, NoMemory}
 use Rattle.dr_inventory.specs.declared.estate.Estate.{Estate}
-use Rattle.dr_groups.specs.Groups.{IsInGroup, Splits, IsClosed, IsFirstSplit, IsSharedBy, IsFirstShared, IsInOneAtMost, Passes, IsFirstInTwo, IsFirstFault, IsPairOf, IsMachineOf, IsOnDatastore}
+use Rattle.dr_groups.specs.Groups.{IsInGroup, Splits, IsClosed, IsFirstSplit, IsSharedBy, IsFirstShared, IsInOneAtMost, Passes, IsFirstInTwo, IsFirstFault, IsPairOf, IsMachineOf}
 use Rattle.std.specs.List.{Contains}
 use Rattle.dr_inventory.specs.declared.estate.Machine.{Machine}
 use Rattle.dr_groups.proofs.ChainLaws.{same_class-link}
@@ -75,9 +76,11 @@ pair_once e pair g h passes p q =
     let same = same_class-link e p.datastore q.datastore (inr (record { device = pair; other = pair; first = p.named; second = q.named; same = refl })) in
     (passes.apart q.datastore).same g h ((passes.closed g).whole p.datastore q.datastore p.in_group same) q.in_group
 
-pub machine_once : (e : Estate) (machine datastore g h : ℕ) → Passes e → IsOnDatastore e machine datastore → IsMachineOf e g machine → IsMachineOf e h machine → g ≡ h
-machine_once e machine datastore g h passes on p q =
+-- two groups that have all datastores of one machine are one group
+pub machine_once : (e : Estate) (machine g h : ℕ) → Passes e → IsMachineOf e g machine → IsMachineOf e h machine → g ≡ h
+machine_once e machine g h passes p q =
+    let datastore : ℕ = get_or p.row.datastores 0 0 in
     let Names : Machine → Type 0 = λ r. Contains r.datastores datastore in
-    (passes.apart datastore).same g h
-    (p.within datastore (subst Names (found_same (slice_get e.machines machine) on.row p.row on.found p.found) on.named))
-    (q.within datastore (subst Names (found_same (slice_get e.machines machine) on.row q.row on.found q.found) on.named))
+    let named : Names p.row = Contains-get_or p.row.datastores 0 0 p.on_some in
+    (passes.apart datastore).same g h (p.within datastore named)
+    (q.within datastore (subst Names (found_same (slice_get e.machines machine) p.row q.row p.found q.found) named))

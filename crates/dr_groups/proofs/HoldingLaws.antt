@@ -47,8 +47,8 @@ pairs_marked e g ds marks named marked only v = (
 -- the machines within a group's marks are its machines
 pub machines_within : (e : Estate) (g : ℕ) (marks : List Bool) → MarksGroup e g marks → (m : ℕ) → IsMachineWithin e marks m ↔ IsMachineOf e g m
 machines_within e g marks exact m = (
-  λ w. record { row = w.row; found = w.found; within = λ d named. (exact.exactly d).0 (w.marked d named) },
-  λ o. record { row = o.row; found = o.found; marked = λ d named. (exact.exactly d).1 (o.within d named) },
+  λ w. record { row = w.row; found = w.found; on_some = w.on_some; within = λ d named. (exact.exactly d).0 (w.marked d named) },
+  λ o. record { row = o.row; found = o.found; on_some = o.on_some; marked = λ d named. (exact.exactly d).1 (o.within d named) },
 )
 
 -- one list more

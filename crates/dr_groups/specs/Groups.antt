@@ -79,10 +79,11 @@ pub record IsPairOf (estate : Estate) (group pair : ℕ) : Type 0 where
   pub in_group : IsInGroup estate group datastore
   pub named : HasDevice estate datastore pair
 
--- all datastores of this machine are in the group
+-- this machine is on at least one datastore, and all of them are in the group
 pub record IsMachineOf (estate : Estate) (group machine : ℕ) : Type 0 where
   pub row : Machine
   pub found : slice_get estate.machines machine ≡ Some row
+  pub on_some : 0 < length row.datastores
   pub within : (datastore : ℕ) → Contains row.datastores datastore → IsInGroup estate group datastore
 
 -- for each group, ascending, what belongs to it

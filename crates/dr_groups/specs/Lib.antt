@@ -4,3 +4,4 @@ pub mod Trees
 pub mod Marks
 pub mod Groups
 pub mod Searches
+pub mod Consistency

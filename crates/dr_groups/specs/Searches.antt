@@ -33,10 +33,11 @@ pub record IsDeviceAmong (estate : Estate) (datastores : List ℕ) (device : ℕ
   pub listed : Contains datastores datastore
   pub named : HasDevice estate datastore device
 
--- all datastores of this machine are marked
+-- this machine is on at least one datastore, and all of them are marked
 pub record IsMachineWithin (estate : Estate) (marks : List Bool) (machine : ℕ) : Type 0 where
   pub row : Machine
   pub found : slice_get estate.machines machine ≡ Some row
+  pub on_some : 0 < length row.datastores
   pub marked : (datastore : ℕ) → Contains row.datastores datastore → IsMarked marks datastore
 
 -- one of so many first groups has the datastore

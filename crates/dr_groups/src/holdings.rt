@@ -42,7 +42,7 @@ fn pairs_of(alloc: Global, estate: &Estate, group: usize) -> Result<Vec<u32>, Al
     marked_numbers(alloc, &marks)
 }
 
-// Whether all datastores of this machine are marked.
+// Whether this machine is on at least one datastore, and all of them are marked.
 fn is_within(estate: &Estate, marks: &[bool], machine: usize) -> bool
     requires declared { machine < length estate.now.machines }
     requires sound { IsSound estate.now }
@@ -50,10 +50,8 @@ fn is_within(estate: &Estate, marks: &[bool], machine: usize) -> bool
 
     ensures { IsTrue result ↔ IsMachineWithin estate.now marks.now machine }
 {
-    all_marked(
-        marks,
-        estate.machines.as_slice()[machine].datastores.as_slice(),
-    )
+    let datastores = estate.machines.as_slice()[machine].datastores.as_slice();
+    !datastores.is_empty() && all_marked(marks, datastores)
 }
 
 // The machines of this group.

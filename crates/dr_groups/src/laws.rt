@@ -3,7 +3,7 @@
 ghost use Rattle.std.specs.Prelude.{◌≡◌, ◌<◌, ◌↔◌, ℕ, List, length, slice_index};
 ghost use Rattle.dr_inventory.specs.declared.estate.Estate.{Estate as EstateValue};
 ghost use Rattle.dr_groups.specs.Links.{SameClass, AreLabels};
-ghost use Rattle.dr_groups.specs.Groups.{IsInGroup, Passes, IsPairOf, IsMachineOf, IsOnDatastore};
+ghost use Rattle.dr_groups.specs.Groups.{IsInGroup, Passes, IsPairOf, IsMachineOf};
 
 /// Being of one class is an equivalence.
 pub fn classes_are_an_equivalence()
@@ -28,7 +28,7 @@ pub fn pair_is_in_one_group()
     ensures { (estate : EstateValue) (pair g h : ℕ) → Passes estate → IsPairOf estate g pair → IsPairOf estate h pair → g ≡ h }
 {}
 
-/// Each machine of an estate that passes is in at most one group, if it is on a datastore at all.
+/// Each machine of an estate that passes is in at most one group.
 pub fn machine_is_in_one_group()
-    ensures { (estate : EstateValue) (machine datastore g h : ℕ) → Passes estate → IsOnDatastore estate machine datastore → IsMachineOf estate g machine → IsMachineOf estate h machine → g ≡ h }
+    ensures { (estate : EstateValue) (machine g h : ℕ) → Passes estate → IsMachineOf estate g machine → IsMachineOf estate h machine → g ≡ h }
 {}

@@ -3,8 +3,7 @@ use Rattle.std.proofs.Common.{◌≡◌, ℕ, ◌+◌, ◌<◌, ◌≤◌, List,
 use Rattle.std.proofs.lemmas.List.{drop_more}
 use Rattle.std.proofs.Math.ListN.{drop_of_length-le}
 use Rattle.dr_base.specs.declared.estate_fault.EstateFault.{EstateFault}
-use Rattle.dr_inventory.specs.declared.read_error.ReadError.{ReadError}
-use Rattle.dr_inventory.specs.Part.{first_or, Stops}
+use Rattle.dr_inventory.specs.Part.{ReadError, first_or, Stops}
 use Rattle.dr_inventory.specs.Names.{first}
 use Rattle.dr_inventory.proofs.Outcome.{then, stops_then}
 

@@ -1,8 +1,7 @@
 -- The faults of keys and types, and then those of names.
 use Rattle.std.proofs.Common.{◌≡◌, Bool, true, false, not, ◌||◌, List, [], ◌∷◌, ◌++◌, filter, Ok, Err, refl, sym, ap, ◌∙◌}
 use Rattle.dr_base.specs.declared.estate_fault.EstateFault.{EstateFault}
-use Rattle.dr_inventory.specs.declared.read_error.ReadError.{ReadError}
-use Rattle.dr_inventory.specs.Part.{Part, first_or, seen, is_of_shape, outcome, Stops}
+use Rattle.dr_inventory.specs.Part.{ReadError, Part, first_or, seen, is_of_shape, outcome, Stops}
 use Rattle.dr_inventory.proofs.FaultLaws.{stops_before}
 
 or_true : (b : Bool) → (b || true) ≡ true

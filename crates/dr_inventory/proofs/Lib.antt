@@ -17,6 +17,6 @@ pub mod SoundNumbers
 pub mod SoundLimits
 pub mod SoundNames
 pub mod SoundLaws
+pub mod EntryLaws
 pub mod TableFaults
-pub mod Housed
 pub mod OneText

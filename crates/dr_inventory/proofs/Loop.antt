@@ -3,9 +3,8 @@ use Rattle.std.proofs.Common.{◌≡◌, ℕ, ◌+◌, Bool, List, [], ◌∷◌
 use Rattle.std.proofs.lemmas.List.{append-nil}
 use Rattle.toml.specs.Data.{Data, Items, no_items, item}
 use Rattle.dr_base.specs.declared.estate_fault.EstateFault.{EstateFault}
-use Rattle.dr_inventory.specs.declared.read_error.ReadError.{ReadError}
-use Rattle.dr_inventory.specs.declared.read_error.ReadError.TheVariants as read_error
-use Rattle.dr_inventory.specs.Part.{outcome, Stops}
+use Rattle.dr_base.specs.declared.stop.Stop.TheVariants as stop
+use Rattle.dr_inventory.specs.Part.{ReadError, outcome, Stops}
 use Rattle.dr_inventory.specs.Shapes.{Shape, entry, entries}
 use Rattle.dr_inventory.proofs.Outcome.{then, outcome_after, outcome_found}
 
@@ -36,8 +35,8 @@ failed front f g read h = rw h refl
 pub ends : {T : Type 0} (e : ReadError) (strict : Bool) (shape : Shape T) (path : List ℕ) (i : ℕ) (d : Data) (ds : Items) (front : List T) (total : Result (List T) EstateFault)
     → Stops e (outcome strict (shape.read (entry path i) d)) → with_front front (outcome strict (entries shape path i (item d ds))) ≡ total
     → Stops e total
-ends read_error.Memory strict shape path i d ds front total h so_far = tt
-ends (read_error.Fault f) strict shape path i d ds front total h so_far =
+ends stop.Memory strict shape path i d ds front total h so_far = tt
+ends (stop.Fault f) strict shape path i d ds front total h so_far =
     sym so_far ∙ ap (with_front front) (outcome-entries strict shape path i d ds) ∙ failed front f _ (outcome strict (shape.read (entry path i) d)) h
 
 pub is_done : {T : Type 0} (strict : Bool) (shape : Shape T) (path : List ℕ) (i : ℕ) (front : List T) (total : Result (List T) EstateFault)

@@ -2,9 +2,8 @@
 use Rattle.std.proofs.Common.{◌≡◌, Bool, ◌||◌, List, [], ◌∷◌, ◌++◌, Result, Ok, Err, refl, ap, ◌∙◌}
 use Rattle.std.proofs.lemmas.List.Elements.{filter-append}
 use Rattle.dr_base.specs.declared.estate_fault.EstateFault.{EstateFault}
-use Rattle.dr_inventory.specs.declared.read_error.ReadError.{ReadError}
-use Rattle.dr_inventory.specs.declared.read_error.ReadError.TheVariants as read_error
-use Rattle.dr_inventory.specs.Part.{Part, found, ◌>>=◌, seen, is_of_shape, first_or, outcome, Stops}
+use Rattle.dr_base.specs.declared.stop.Stop.TheVariants as stop
+use Rattle.dr_inventory.specs.Part.{ReadError, Part, found, ◌>>=◌, seen, is_of_shape, first_or, outcome, Stops}
 
 -- what comes after a reading that gave a value
 abbrev pub then : {A B : Type 0} → Result A EstateFault → (A → Result B EstateFault) → Result B EstateFault
@@ -33,5 +32,5 @@ outcome_found strict x = refl
 
 -- a reading that stopped is not gone on with
 pub stops_then : {A B : Type 0} (e : ReadError) (r : Result A EstateFault) (f : A → Result B EstateFault) → Stops e r → Stops e (then r f)
-stops_then read_error.Memory r f h = tt
-stops_then (read_error.Fault e) r f h = rw h refl
+stops_then stop.Memory r f h = tt
+stops_then (stop.Fault e) r f h = rw h refl

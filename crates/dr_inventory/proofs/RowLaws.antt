@@ -3,9 +3,8 @@ use Rattle.std.proofs.Common.{◌≡◌, ◌∙◌, List, [], ◌∷◌, Ok, ref
 use Rattle.toml.specs.Data.{Members}
 use Rattle.dr_base.specs.declared.estate_fault.EstateFault.{EstateFault}
 use Rattle.dr_inventory.specs.declared.document.Document.{Document}
-use Rattle.dr_inventory.specs.declared.read_error.ReadError.{ReadError}
-use Rattle.dr_inventory.specs.declared.read_error.ReadError.TheVariants as read_error
-use Rattle.dr_inventory.specs.Part.{first_or, Stops}
+use Rattle.dr_base.specs.declared.stop.Stop.TheVariants as stop
+use Rattle.dr_inventory.specs.Part.{ReadError, first_or, Stops}
 use Rattle.dr_inventory.specs.Documents.{document}
 use Rattle.dr_inventory.specs.Rules.{twice_faults, unknown_faults, device_faults}
 use Rattle.dr_inventory.specs.Limits.{limits}
@@ -21,9 +20,9 @@ only_limits doc y t u d =
 
 -- faults that stop one call stop another
 pub stops_too : {A B : Type 0} (e : ReadError) (fs : List EstateFault) (x : A) (y : B) → Stops e (first_or fs x) → Stops e (first_or fs y)
-stops_too read_error.Memory fs x y h = tt
-stops_too (read_error.Fault f) [] x y h = cc
-stops_too (read_error.Fault f) (g ∷ fs) x y h = let e : g ≡ f = cc in rw e refl
+stops_too stop.Memory fs x y h = tt
+stops_too (stop.Fault f) [] x y h = cc
+stops_too (stop.Fault f) (g ∷ fs) x y h = let e : g ≡ f = cc in rw e refl
 
 pub none_stop : {A B : Type 0} (fs : List EstateFault) (x z : A) (y : B) → first_or fs x ≡ Ok z → first_or fs y ≡ Ok y
 none_stop [] x z y h = refl

@@ -5,8 +5,7 @@ use Rattle.toml.specs.Data.{Members}
 use Rattle.dr_base.specs.declared.estate_fault.EstateFault.{EstateFault}
 use Rattle.dr_inventory.specs.declared.document.Document.{Document}
 use Rattle.dr_inventory.specs.declared.estate.Estate.{Estate}
-use Rattle.dr_inventory.specs.declared.read_error.ReadError.{ReadError}
-use Rattle.dr_inventory.specs.Part.{IsUnlessMemory, first_or}
+use Rattle.dr_inventory.specs.Part.{ReadError, IsUnlessMemory, first_or}
 use Rattle.dr_inventory.specs.Documents.{document}
 use Rattle.dr_inventory.specs.Rules.{twice_faults, unknown_faults, device_faults}
 use Rattle.dr_inventory.specs.Limits.{limits}

@@ -12,9 +12,8 @@ use Rattle.dr_inventory.specs.declared.estate.PlanMachineRow.{PlanMachineRow}
 use Rattle.dr_inventory.specs.declared.estate.PlanRow.{PlanRow}
 use Rattle.dr_inventory.specs.declared.document.Document.{Document}
 use Rattle.dr_inventory.specs.declared.estate.Estate.{Estate}
-use Rattle.dr_inventory.specs.declared.read_error.ReadError.{ReadError}
-use Rattle.dr_inventory.specs.declared.read_error.ReadError.TheVariants as read_error
-use Rattle.dr_inventory.specs.Part.{IsUnlessMemory, Part, found, wrong, ◌>>=◌, is_of_shape, first_or}
+use Rattle.dr_base.specs.declared.stop.Stop.TheVariants as stop
+use Rattle.dr_inventory.specs.Part.{ReadError, IsUnlessMemory, Part, found, wrong, ◌>>=◌, is_of_shape, first_or}
 use Rattle.dr_inventory.specs.Shapes.{Shape, a_name, a_path, a_text, a_number, numbered, a_form, formed, is_one, a_word, worded, known_or, spelled, below, entry, entries, count, as_list, list_of, as_row, a_row, or_else, required, optional, only, no_name, unnamed, keys_of, shown}
 use Rattle.dr_inventory.specs.Tables.{machine, no_machine, datastore, no_datastore, consistency, no_consistency, group, no_group, a_side, side_of}
 use Rattle.dr_inventory.specs.Maps.{map_key, map_from, a_kind, kind_of, a_place, map_row, no_map}
@@ -337,9 +336,9 @@ first_other (f ∷ fs) x h e =
     let no : false ≡ true = rw same at here in cc
 
 -- so a reading of a table never tells it
-pub never_told : (t : Members) (r : Result Estate ReadError) → IsUnlessMemory r (reading t) → r ≡ Err (read_error.Fault NotToml) → ⊥
+pub never_told : (t : Members) (r : Result Estate ReadError) → IsUnlessMemory r (reading t) → r ≡ Err (stop.Fault NotToml) → ⊥
 never_told t (Ok e) h told = cc
-never_told t (Err read_error.Memory) h told = cc
-never_told t (Err (read_error.Fault f)) h told =
+never_told t (Err stop.Memory) h told = cc
+never_told t (Err (stop.Fault f)) h told =
     let same : f ≡ NotToml = cc in
     let e : reading t ≡ Err NotToml = rw same at h in first_other (faults t) _ (all_other t).others e

@@ -11,3 +11,4 @@ pub mod Places
 pub mod Numbers
 pub mod Estates
 pub mod Sound
+pub mod Consistency

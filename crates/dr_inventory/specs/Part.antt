@@ -3,8 +3,8 @@ use Rattle.std.specs.Prelude.{◌≡◌, Bool, true, false, ◌||◌, List, [], 
 use Rattle.std.specs.List.{filter}
 use Rattle.dr_base.specs.declared.estate_fault.EstateFault.{EstateFault}
 use Rattle.dr_base.specs.declared.estate_fault.EstateFault.TheVariants.{Key}
-use Rattle.dr_inventory.specs.declared.read_error.ReadError.{ReadError}
-use Rattle.dr_inventory.specs.declared.read_error.ReadError.TheVariants as read_error
+use Rattle.dr_base.specs.declared.stop.Stop.{Stop}
+use Rattle.dr_base.specs.declared.stop.Stop.TheVariants as stop
 
 -- what is wrong with a part, in the order of the walk, and what it stands for
 pub record Part (T : Type 0) : Type 0 where
@@ -42,10 +42,14 @@ first_or (f ∷ fs) x = Err f
 unfoldable pub outcome : {T : Type 0} → Bool → Part T → Result T EstateFault
 outcome strict p = first_or (seen strict p.faults) p.value
 
+-- why a part wasn't read
+abbrev pub ReadError : Type 0
+ReadError = Stop EstateFault
+
 -- a reading stopped for this reason: this is the fault, or memory ran out
 abbrev pub Stops : {Y : Type 0} → ReadError → Result Y EstateFault → Type 0
-Stops read_error.Memory r = Unit {0}
-Stops (read_error.Fault f) r = r ≡ Err f
+Stops stop.Memory r = Unit {0}
+Stops (stop.Fault f) r = r ≡ Err f
 
 -- what a reading returned is the first fault or the value, unless memory ran out
 abbrev pub Gives : {T : Type 0} → Bool → Result T ReadError → Part T → Type 0
@@ -54,8 +58,8 @@ Gives strict (Err e) p = Stops e (outcome strict p)
 
 -- the reason is this fault, or want of memory
 abbrev pub IsFault : EstateFault → ReadError → Type 0
-IsFault f read_error.Memory = Unit {0}
-IsFault f (read_error.Fault g) = g ≡ f
+IsFault f stop.Memory = Unit {0}
+IsFault f (stop.Fault g) = g ≡ f
 
 -- what a call returned is this, unless memory ran out
 abbrev pub IsUnlessMemory : {T : Type 0} → Result T ReadError → Result T EstateFault → Type 0

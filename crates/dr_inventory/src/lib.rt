@@ -15,6 +15,7 @@ mod places;
 mod plans;
 mod read_error;
 mod reading;
+mod refers;
 mod tables;
 mod twice;
 mod unknown;

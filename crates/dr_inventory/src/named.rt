@@ -1,7 +1,7 @@
 //! Rows with names: which name stands twice, where the row of a name stands, and the numbers that are kept
 //! for names.
 
-ghost use Rattle.std.specs.Prelude.{◌≡◌, ℕ, List, [], ◌||◌, IfOk, OnOk, map, bytes_eq, if◌then◌else◌};
+ghost use Rattle.std.specs.Prelude.{◌≡◌, ℕ, List, [], ◌||◌, IfOk, OnOk, find, is_some, map, not, bytes_eq, if◌then◌else◌};
 ghost use Rattle.std.specs.Option.{option_or};
 ghost use Rattle.std.specs.Ordering.{nat_cmp};
 ghost use Rattle.std.specs.Cmp.Lexicographic.{slice_cmp};
@@ -80,6 +80,18 @@ pub fn places_of<T: Named>(alloc: Global, rows: &[T]) -> Result<BTreeMap<Name, u
         note(&mut places, row.name(), i)?;
     }
     Ok(places)
+}
+
+/// The first of these names that has no place.
+pub fn first_missing(places: &BTreeMap<Name, usize>, names: &[Name]) -> Option<Name>
+    ensures { result ≡ find (λ n. not (is_some (get (slice_cmp nat_cmp) places.now n))) names.now }
+{
+    for name in names {
+        if !places.contains_key(name) {
+            return Some(*name);
+        }
+    }
+    None
 }
 
 /// The number of a name, 0 for one that has none.

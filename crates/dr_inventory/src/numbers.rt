@@ -1,9 +1,9 @@
 //! The rows of an estate, with numbers in place of names.
 
-ghost use Rattle.std.specs.Prelude.{◌≡◌, length, map, flat_map, ◌≤◌, IfOk};
-ghost use Rattle.dr_inventory.specs.Rules.{devices, datastore_devices};
+ghost use Rattle.std.specs.Prelude.{◌≡◌, ℕ, List, length, map, ◌≤◌, IfOk};
+ghost use Rattle.dr_inventory.specs.Rules.{devices};
 ghost use Rattle.dr_inventory.specs.Places.{IsPlacesOf, AllFit, number_in};
-ghost use Rattle.dr_inventory.specs.Numbers.{machine_of, datastore_of, group_of, estate_of};
+ghost use Rattle.dr_inventory.specs.Numbers.{estate_of};
 
 use crate::consistency::consistency_of;
 use crate::document::{DatastoreEntry, Document, GroupEntry, MachineEntry};
@@ -14,109 +14,96 @@ use dr_base::{Name, Rows};
 use std::alloc::{AllocError, Global};
 use std::collections::BTreeMap;
 
-/// The devices that the datastores name, in order.
-pub fn devices_of(alloc: Global, datastores: &[DatastoreEntry]) -> Result<Vec<Name>, AllocError>
-    ensures { IfOk result (λ v. v.items ≡ flat_map datastore_devices datastores.now) }
-{
-    let mut names = Vec::new(alloc);
-    for datastore in datastores {
-        names.extend_from_slice(datastore.devices.as_slice())?;
+// A row of a document, which is a row of the estate once its names are numbers.
+trait Entry {
+    type Numbered: Drop;
+
+    // The row, where the names have these numbers.
+    ghost numbered: { (List ℕ → ℕ) → Self → Self.Numbered };
+
+    fn numbered(
+        &self,
+        alloc: Global,
+        numbers: &BTreeMap<Name, usize>,
+    ) -> Result<Self::Numbered, AllocError>
+        requires { AllFit numbers.now }
+        ensures { IfOk result (λ row. row ≡ numbered (number_in numbers.now) self.now) };
+}
+
+impl Entry for MachineEntry {
+    ghost use Rattle.dr_inventory.specs.Numbers.{machine_of};
+
+    type Numbered = Machine;
+
+    ghost numbered = { machine_of };
+
+    fn numbered(
+        &self,
+        alloc: Global,
+        numbers: &BTreeMap<Name, usize>,
+    ) -> Result<Machine, AllocError> {
+        Ok(Machine {
+            name: self.name,
+            network: self.network,
+            folder: self.folder,
+            pool: self.pool,
+            datastores: Rows::new(numbers_of(alloc, numbers, self.datastores.as_slice())?),
+        })
     }
-    Ok(names)
 }
 
-fn machine_of(
-    alloc: Global,
-    datastores: &BTreeMap<Name, usize>,
-    entry: &MachineEntry,
-) -> Result<Machine, AllocError>
-    requires { AllFit datastores.now }
-    ensures { IfOk result (λ m. m ≡ machine_of (number_in datastores.now) entry.now) }
-{
-    let datastores = Rows::new(numbers_of(alloc, datastores, entry.datastores.as_slice())?);
-    Ok(Machine {
-        name: entry.name,
-        network: entry.network,
-        folder: entry.folder,
-        pool: entry.pool,
-        datastores,
-    })
+impl Entry for DatastoreEntry {
+    ghost use Rattle.dr_inventory.specs.Numbers.{datastore_of};
+
+    type Numbered = Datastore;
+
+    ghost numbered = { datastore_of };
+
+    fn numbered(
+        &self,
+        alloc: Global,
+        numbers: &BTreeMap<Name, usize>,
+    ) -> Result<Datastore, AllocError> {
+        Ok(Datastore {
+            name: self.name,
+            devices: Rows::new(numbers_of(alloc, numbers, self.devices.as_slice())?),
+        })
+    }
 }
 
-fn machines_of(
+impl Entry for GroupEntry {
+    ghost use Rattle.dr_inventory.specs.Numbers.{group_of};
+
+    type Numbered = GroupRow;
+
+    ghost numbered = { group_of };
+
+    fn numbered(
+        &self,
+        alloc: Global,
+        numbers: &BTreeMap<Name, usize>,
+    ) -> Result<GroupRow, AllocError> {
+        Ok(GroupRow {
+            name: self.name,
+            protects: self.protects,
+            datastores: Rows::new(numbers_of(alloc, numbers, self.datastores.as_slice())?),
+        })
+    }
+}
+
+fn rows_of<E: Entry>(
     alloc: Global,
-    datastores: &BTreeMap<Name, usize>,
-    entries: &[MachineEntry],
-) -> Result<Rows<Machine>, AllocError>
-    requires { AllFit datastores.now }
-    ensures { IfOk result (λ ms. ms ≡ map (machine_of (number_in datastores.now)) entries.now) }
+    numbers: &BTreeMap<Name, usize>,
+    entries: &[E],
+) -> Result<Rows<E::Numbered>, AllocError>
+    requires { AllFit numbers.now }
+    ensures { IfOk result (λ rows. rows ≡ map (E.numbered (number_in numbers.now)) entries.now) }
 {
-    let mut machines = Vec::new(alloc);
+    let mut rows = Vec::new(alloc);
     for entry in entries {
-        machines.push(machine_of(alloc, datastores, entry)?)?;
+        rows.push(entry.numbered(alloc, numbers)?)?;
     }
-    Ok(Rows::new(machines))
-}
-
-fn datastore_of(
-    alloc: Global,
-    devices: &BTreeMap<Name, usize>,
-    entry: &DatastoreEntry,
-) -> Result<Datastore, AllocError>
-    requires { AllFit devices.now }
-    ensures { IfOk result (λ d. d ≡ datastore_of (number_in devices.now) entry.now) }
-{
-    let devices = Rows::new(numbers_of(alloc, devices, entry.devices.as_slice())?);
-    Ok(Datastore {
-        name: entry.name,
-        devices,
-    })
-}
-
-fn datastores_of(
-    alloc: Global,
-    devices: &BTreeMap<Name, usize>,
-    entries: &[DatastoreEntry],
-) -> Result<Rows<Datastore>, AllocError>
-    requires { AllFit devices.now }
-    ensures { IfOk result (λ ds. ds ≡ map (datastore_of (number_in devices.now)) entries.now) }
-{
-    let mut datastores = Vec::new(alloc);
-    for entry in entries {
-        datastores.push(datastore_of(alloc, devices, entry)?)?;
-    }
-    Ok(Rows::new(datastores))
-}
-
-fn group_of(
-    alloc: Global,
-    datastores: &BTreeMap<Name, usize>,
-    entry: &GroupEntry,
-) -> Result<GroupRow, AllocError>
-    requires { AllFit datastores.now }
-    ensures { IfOk result (λ g. g ≡ group_of (number_in datastores.now) entry.now) }
-{
-    let datastores = Rows::new(numbers_of(alloc, datastores, entry.datastores.as_slice())?);
-    Ok(GroupRow {
-        name: entry.name,
-        protects: entry.protects,
-        datastores,
-    })
-}
-
-fn groups_of(
-    alloc: Global,
-    datastores: &BTreeMap<Name, usize>,
-    entries: &[GroupEntry],
-) -> Result<Rows<GroupRow>, AllocError>
-    requires { AllFit datastores.now }
-    ensures { IfOk result (λ gs. gs ≡ map (group_of (number_in datastores.now)) entries.now) }
-{
-    let mut groups = Vec::new(alloc);
-    for entry in entries {
-        groups.push(group_of(alloc, datastores, entry)?)?;
-    }
-    Ok(Rows::new(groups))
+    Ok(Rows::new(rows))
 }
 
 /// The estate of a document with which nothing is wrong.
@@ -132,10 +119,10 @@ pub fn estate_of(
     requires names { names.items ≡ devices doc }
     ensures { IfOk result (λ e. e ≡ estate_of doc) }
 {
-    let machines = machines_of(alloc, &places.datastores, doc.machines.as_slice())?;
-    let datastores = datastores_of(alloc, &places.devices, doc.datastores.as_slice())?;
+    let machines = rows_of(alloc, &places.datastores, doc.machines.as_slice())?;
+    let datastores = rows_of(alloc, &places.devices, doc.datastores.as_slice())?;
     let consistency = consistency_of(alloc, &places.devices, doc.consistency.as_slice(), &names)?;
-    let groups = groups_of(alloc, &places.datastores, doc.groups.as_slice())?;
+    let groups = rows_of(alloc, &places.datastores, doc.groups.as_slice())?;
     Ok(Estate {
         machines,
         datastores,

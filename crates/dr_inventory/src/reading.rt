@@ -1,32 +1,34 @@
 //! Reading an estate: its form, then its rules.
 
-ghost use Rattle.std.specs.Prelude.{◌≡◌, ◌≢◌, map, flat_map, IfOk, IfErr};
+ghost use Rattle.std.specs.Prelude.{◌≡◌, ◌≢◌, map, IfOk, IfErr};
 ghost use Rattle.toml.specs.View.{table_view};
 ghost use Rattle.dr_base.specs.declared.estate_fault.EstateFault.TheVariants.{DeviceTwice, NotToml, NoMemory};
 ghost use Rattle.dr_base.specs.declared.estate_fault.EstateFault.{EstateFault as AnyFault};
 ghost use Rattle.dr_inventory.specs.declared.estate.Estate.{Estate as EstateValue};
-ghost use Rattle.dr_inventory.specs.declared.read_error.ReadError.TheVariants.{Fault};
+ghost use Rattle.dr_base.specs.declared.stop.Stop.TheVariants.{Fault};
 ghost use Rattle.dr_inventory.specs.Part.{IsUnlessMemory, first_or, is_of_shape};
 ghost use Rattle.dr_inventory.specs.Documents.{document};
 ghost use Rattle.dr_inventory.specs.Names.{twice_in};
-ghost use Rattle.dr_inventory.specs.Rules.{devices, consistency_devices, twice_faults, device_faults};
+ghost use Rattle.dr_inventory.specs.Rules.{devices, twice_faults, device_faults};
 ghost use Rattle.dr_inventory.specs.Numbers.{estate_of};
 ghost use Rattle.dr_inventory.specs.Estates.{form_faults, row_faults, IsEstateText, IsTextFault, reading};
 ghost use Rattle.dr_inventory.specs.Sound.{IsSound};
+ghost use Rattle.dr_inventory.specs.Consistency.{HasLeastEntries};
 
-use crate::document::{ConsistencyEntry, Document, read_document};
+use crate::document::{Document, read_document};
 use crate::estate::Estate;
 use crate::limits::all_counts_within;
 use crate::map_key::no_map_twice;
 use crate::named::first_twice;
-use crate::numbers::{devices_of, estate_of};
+use crate::numbers::estate_of;
 use crate::places::places_in;
 use crate::read_error::ReadError;
+use crate::refers::names_in;
 use crate::twice::no_name_twice;
 use crate::unknown::all_known;
 use crate::walk::Walk;
 use dr_base::{EstateFault, Limit, Name};
-use std::alloc::{AllocError, Global};
+use std::alloc::Global;
 use toml::Table;
 
 const MOST_BYTES: usize = 4_194_304;
@@ -90,17 +92,6 @@ fn no_device_twice(alloc: Global, names: &[Name]) -> Result<(), ReadError>
     }
 }
 
-// The devices that consistency groups name, in order.
-fn grouped_devices(alloc: Global, groups: &[ConsistencyEntry]) -> Result<Vec<Name>, AllocError>
-    ensures { IfOk result (λ v. v.items ≡ flat_map consistency_devices groups.now) }
-{
-    let mut names = Vec::new(alloc);
-    for group in groups {
-        names.extend_from_slice(group.devices.as_slice())?;
-    }
-    Ok(names)
-}
-
 // Stops at the first device that datastores name twice, or else consistency groups.
 #[tactic(auto, using(crate::proofs::FaultLaws::stops_before, crate::proofs::FaultLaws::goes_by))]
 fn devices_once(alloc: Global, doc: &Document, names: &[Name]) -> Result<(), ReadError>
@@ -108,7 +99,7 @@ fn devices_once(alloc: Global, doc: &Document, names: &[Name]) -> Result<(), Rea
     ensures { IsUnlessMemory result (first_or (device_faults doc.now) tt) }
 {
     no_device_twice(alloc, names)?;
-    let grouped = grouped_devices(alloc, doc.consistency.as_slice())?;
+    let grouped = names_in(alloc, doc.consistency.as_slice())?;
     no_device_twice(alloc, &grouped)
 }
 
@@ -118,7 +109,7 @@ fn finish(alloc: Global, doc: Document) -> Result<Estate, ReadError>
     ensures { IsUnlessMemory result (first_or (row_faults doc) (estate_of doc)) }
 {
     nothing_twice(alloc, &doc)?;
-    let names = devices_of(alloc, doc.datastores.as_slice())?;
+    let names = names_in(alloc, doc.datastores.as_slice())?;
     let places = places_in(alloc, &doc, &names)?;
     all_known(&doc, &places)?;
     devices_once(alloc, &doc, &names)?;
@@ -132,6 +123,7 @@ fn read_table(alloc: Global, table: &Table) -> Result<Estate, ReadError>
     ensures first { IsUnlessMemory result (reading (table_view table.now)) }
     ensures not_told { ¬ (result ≡ Err (Fault NotToml)) }
     ensures sound { IfOk result IsSound }
+    ensures least_entries { IfOk result HasLeastEntries }
 {
     let doc = read_form(alloc, table)?;
     finish(alloc, doc)
@@ -145,6 +137,7 @@ pub fn read_estate(alloc: Global, bytes: &[u8]) -> Result<Estate, EstateFault>
     ensures estate { IfOk result (IsEstateText bytes.now) }
     ensures fault { IfErr result (λ found. found ≢ NoMemory → IsTextFault bytes.now found) }
     ensures sound { IfOk result IsSound }
+    ensures least_entries { IfOk result HasLeastEntries }
 
     // The other way: what is so is told, unless memory runs out.
     ensures reads { (estate : EstateValue) → IsEstateText bytes.now estate → result ≢ Err NoMemory → result ≡ Ok estate }

@@ -1,6 +1,6 @@
 //! Names that aren't declared.
 
-ghost use Rattle.std.specs.Prelude.{◌≡◌, ℕ, List, not, is_some, map, flat_map, find};
+ghost use Rattle.std.specs.Prelude.{◌≡◌, not, is_some, map, flat_map, find};
 ghost use Rattle.std.specs.Ordering.{nat_cmp};
 ghost use Rattle.std.specs.Cmp.Lexicographic.{slice_cmp};
 ghost use Rattle.std.specs.BTreeMap.{get};
@@ -10,61 +10,13 @@ ghost use Rattle.dr_inventory.specs.Names.{unknown};
 ghost use Rattle.dr_inventory.specs.Places.{IsPlacesOf};
 ghost use Rattle.dr_inventory.specs.Rules.{datastore_name, devices, grouped_devices, unknown_faults};
 
-use crate::document::{ConsistencyEntry, Document, GroupEntry, MachineEntry};
+use crate::document::Document;
+use crate::named::first_missing;
 use crate::places::Places;
 use crate::read_error::ReadError;
+use crate::refers::Refers;
 use dr_base::{EstateFault, Name};
 use std::collections::BTreeMap;
-
-// Rows that name rows of another list.
-trait Refers {
-    ghost names: { Self → List (List ℕ) };
-
-    fn names(&self) -> &[Name]
-        ensures { result.now ≡ names self.now };
-}
-
-impl Refers for MachineEntry {
-    ghost use Rattle.dr_inventory.specs.Rules.{machine_datastores};
-
-    ghost names = { machine_datastores };
-
-    fn names(&self) -> &[Name] {
-        self.datastores.as_slice()
-    }
-}
-
-impl Refers for ConsistencyEntry {
-    ghost use Rattle.dr_inventory.specs.Rules.{consistency_devices};
-
-    ghost names = { consistency_devices };
-
-    fn names(&self) -> &[Name] {
-        self.devices.as_slice()
-    }
-}
-
-impl Refers for GroupEntry {
-    ghost use Rattle.dr_inventory.specs.Rules.{group_datastores};
-
-    ghost names = { group_datastores };
-
-    fn names(&self) -> &[Name] {
-        self.datastores.as_slice()
-    }
-}
-
-// The first of these names that has no place.
-fn first_missing(places: &BTreeMap<Name, usize>, names: &[Name]) -> Option<Name>
-    ensures { result ≡ find (λ n. not (is_some (get (slice_cmp nat_cmp) places.now n))) names.now }
-{
-    for name in names {
-        if !places.contains_key(name) {
-            return Some(*name);
-        }
-    }
-    None
-}
 
 // The first name in these rows that has no place.
 fn first_unknown<T: Refers>(places: &BTreeMap<Name, usize>, rows: &[T]) -> Option<Name>

@@ -1,14 +1,18 @@
 -- The walk over the gates of a file, step by step.
-use Rattle.std.proofs.Common.{◌≡◌, ◌≢◌, inl, inr, ℕ, suc, ◌+◌, ◌<◌, ◌≤◌, ◌^◌, List, [], ◌∷◌, ◌++◌, length, get_or, take, drop, true, nat_eq, refl, sym, ◌∙◌, ap, arith, length-append, length-take, length-drop, append_assoc}
+use Rattle.std.proofs.Common.{◌≡◌, ◌≢◌, inl, inr, ℕ, suc, ◌+◌, ◌<◌, ◌≤◌, ◌^◌, List, [], ◌∷◌, ◌++◌, length, get_or, take, drop, true, nat_eq, nat_lt, if◌then◌else◌, refl, sym, ◌∙◌, ap, arith, length-append, length-take, length-drop, append_assoc}
 use Rattle.std.proofs.Math.Seq.{take-add}
 use Rattle.std.specs.Cmp.Lexicographic.{same_text}
 use Rattle.std.proofs.lemmas.List.{append-nil, take-append-drop, drop_more, get_or-drop, get_or-take, get_or_past}
 use Rattle.std.proofs.lemmas.Bool.{cases_lt}
+use Rattle.std.proofs.lemmas.Bool.Decides.{nat_tests}
 use Rattle.std.proofs.lemmas.Nat.{be_bytes_4}
 use Rattle.std.specs.Int.{to_be_bytes, w32}
 use Rattle.std.specs.List.{starts_with}
 use Rattle.dr_journal.specs.Reading.{header, body_size, journal_in, record_bytes, all_record_bytes}
 use Rattle.dr_journal.specs.Reading.Reading.{DamagedAt}
+use Rattle.dr_journal.specs.Gates.{gate_in}
+use Rattle.dr_journal.specs.declared.gates.Gate.{Gate}
+use Rattle.dr_journal.specs.declared.gates.Gate.TheVariants.{Open, CutShort}
 use Rattle.dr_journal.specs.Held.{HasFront, ClosesAt}
 use Rattle.dr_journal.proofs.FileParts.{length-header, journal_in-open, all_record_bytes-push}
 
@@ -38,6 +42,12 @@ module _ (form : ℕ) (bodies : List (List ℕ)) (at : ℕ) (file : List ℕ) (f
   pub ends : get_or file at 0 ≢ 165 → ClosesAt form bodies at file
   ends shut = record { gate = get_or file at 0; rest = drop (at + 1) file; whole = split (get_or file at 0) refl; shut = shut; is_at = place_is }
 
+pub open_size : (n remaining : ℕ) → 5 + n < remaining → (if nat_lt (5 + n) remaining then Open n else CutShort) ≡ Open n
+open_size n remaining room = grind (arith, nat_tests)
+
+cut_size : (n remaining : ℕ) → remaining ≤ 5 + n → (if nat_lt (5 + n) remaining then Open n else CutShort) ≡ CutShort
+cut_size n remaining cut = grind (arith, nat_tests)
+
 bytes_fit : (file : List ℕ) (k : ℕ) → ((i : ℕ) → get_or file i 0 < 256) → (i : ℕ) → get_or (take 4 (drop k file)) i 0 < 256
 bytes_fit file k fits i = elim (cases_lt i 4) [
   | inl below ↦ rw (get_or-take 4 (drop k file) i 0 below, get_or-drop k file i 0) (fits (k + i))
@@ -62,3 +72,16 @@ goes_on form bodies at n file front fits is n_is whole =
           ∙ append_assoc (header form) (all_record_bytes bodies) (record_bytes body) ∙ ap (λ (l : List ℕ). header form ++ l) (sym (all_record_bytes-push bodies body));
       inside = omega (arith, length-drop (at + 1) file);
     }
+
+-- what stands behind an open gate
+pub open_gate : (remaining n : ℕ) (rest : List ℕ) → gate_in remaining (165 ∷ rest) ≡ Open n → (n ≡ body_size rest) × (5 + n < remaining)
+open_gate remaining n rest told = elim (cases_lt (5 + body_size rest) remaining) [
+  | inl room ↦ (let is : Open n ≡ Open (body_size rest) = sym told ∙ open_size (body_size rest) remaining room in let same : n ≡ body_size rest = cc in (same, omega arith))
+  | inr cut ↦ (let is : Open n ≡ CutShort = sym told ∙ cut_size (body_size rest) remaining cut in absurd (let no : ⊥ = cc in no))
+]
+
+pub other_gate : (remaining : ℕ) (rest : List ℕ) (gate : Gate) → gate_in remaining (165 ∷ rest) ≡ gate → ((n : ℕ) → gate ≢ Open n) → remaining ≤ 5 + body_size rest
+other_gate remaining rest gate told other = elim (cases_lt (5 + body_size rest) remaining) [
+  | inl room ↦ absurd (other (body_size rest) (sym told ∙ open_size (body_size rest) remaining room))
+  | inr cut ↦ cut
+]

@@ -6,7 +6,8 @@ use Rattle.dr_disk.specs.Disk.{Follows, NoOther}
 use Rattle.dr_journal.specs.Reading.{form_1, journal_of}
 use Rattle.dr_journal.specs.Reading.Reading.{Whole, DamagedAt}
 use Rattle.dr_journal.specs.Kept.{SameRecords, Appends, AppendsSome, Have, BeginWith, Keeps}
-use Rattle.dr_journal.specs.Places.{place_after, StandsAt, IsNext}
+use Rattle.dr_journal.specs.Places.{place_after, StandsAt, AreAt, IsNext}
+use Rattle.dr_journal.specs.Walk.{ReaderState, IsAt, Moves}
 use Rattle.dr_journal.specs.State.{JournalState, IsOpen}
 use Rattle.dr_journal.proofs.AppendedFile.{had}
 
@@ -223,3 +224,33 @@ next_record file before (first ∷ more) body at whole is_at next =
 pub no_record : (file : List ℕ) (before after : List (List ℕ)) (at : ℕ) → journal_of file ≡ Whole (before ++ after) → at ≡ place_after before → IsNext file at None → journal_of file ≡ Whole before
 no_record file before [] at whole is_at next = whole ∙ ap Whole (append-nil before)
 no_record file before (first ∷ more) at whole is_at next = let none : None ≡ Some first = next before (first ∷ more) whole is_at in cc
+
+-- Walking over the records with a reader.
+
+-- a new reader of an opened journal has all records in front of it
+pub reader_begins : (journal : JournalState) (reads : Option (List ℕ)) (images : List ℕ → Type 0) (reader : ReaderState) → IsOpen journal reads images
+    → reader ≡ record { file_length = journal.file_length; place = 16; body = []; next_place = 16; window_place = 16; window = [] } → (file : List ℕ) → reads ≡ Some file → (bodies : List (List ℕ)) × IsAt reader file [] bodies
+reader_begins journal reads images reader is_open is file here =
+    let known = is_open.trimmed file here in (
+      known.0,
+      record {
+        trimmed = known.1;
+        ends = is_open.ends file here ∙ sym (ap (λ (r : ReaderState). r.file_length) is);
+        place = ap (λ (r : ReaderState). r.next_place) is;
+        shows = subst (λ (r : ReaderState). AreAt file r.window_place r.window) (sym is) refl;
+      },
+    )
+
+-- the records behind a reader and in front of it are those of the file
+pub reader_records : (reader : ReaderState) (file : List ℕ) (before after : List (List ℕ)) → IsAt reader file before after → journal_of file ≡ Whole (before ++ after)
+reader_records reader file before after is_at = had form_1 (before ++ after) file is_at.trimmed
+
+-- a reader that found no record has all of them behind it
+pub reader_ends : (reader : ReaderState) (file : List ℕ) (before after : List (List ℕ)) → Moves file before after false reader → journal_of file ≡ Whole before
+reader_ends reader file before [] moved = reader_records reader file before [] moved.1 ∙ ap Whole (append-nil before)
+reader_ends reader file before (body ∷ after) moved = let no : false ≡ true = moved.0 in cc
+
+-- a reader that went on to a record has that one behind it
+pub reader_moves : (reader : ReaderState) (file : List ℕ) (before after : List (List ℕ)) → Moves file before after true reader → (more : List (List ℕ)) × IsAt reader file (before ++ reader.body ∷ []) more
+reader_moves reader file before [] moved = let no : true ≡ false = moved.0 in cc
+reader_moves reader file before (body ∷ after) moved = (after, subst (λ (b : List ℕ). IsAt reader file (before ++ b ∷ []) after) (sym moved.1) moved.2)

@@ -4,4 +4,5 @@ mod AppendedFile
 mod AppendCalls
 mod OpenedFile
 mod NextRecord
+mod Reader
 pub mod Laws

@@ -2,8 +2,8 @@
 use Rattle.std.proofs.Common.{◌≡◌, ℕ, zero, suc, ◌+◌, ◌-◌, ◌<◌, ◌≤◌, List, [], ◌∷◌, ◌++◌, length, take, drop, Option, Some, None, refl, sym, ◌∙◌, ap, arith, length-append, length-take, append_assoc}
 use Rattle.std.specs.Option.{option_map}
 use Rattle.std.proofs.lemmas.Option.{same_Some, none-some}
-use Rattle.std.proofs.lemmas.List.{append-nil, drop_all}
-use Rattle.dr_disk.specs.Disk.{written, Torn, Cut, Follows}
+use Rattle.std.proofs.lemmas.List.{append-nil, take_all, drop_all}
+use Rattle.dr_disk.specs.Disk.{written, Torn, Cut, NoOther, Follows, OnlyOne}
 use Rattle.dr_journal.specs.Reading.{header, form_1, journal_in, journal_of, all_record_bytes}
 use Rattle.dr_journal.specs.Reading.Reading.{Whole}
 use Rattle.dr_journal.specs.Kept.{SameRecords}
@@ -23,35 +23,22 @@ take_past (x ∷ xs) ys (suc m) n is = ap (λ (l : List ℕ). x ∷ l) (take_pas
 both_short : (old new : List ℕ) → length old < 18 → length new < 18 → SameRecords old new
 both_short old new old_short new_short = journal_in-short form_1 new new_short ∙ sym (journal_in-short form_1 old old_short)
 
-pub cut_short : (I0 I1 : List ℕ → Type 0) → ((c : List ℕ) → I0 c → length c < 18) → Follows (Cut 0) I0 I1 → (c : List ℕ) → I1 c → (x : List ℕ) × I0 x × SameRecords x c
-cut_short I0 I1 short cut c here =
-    let from = cut c here in
-    let long = short from.0 from.1 in
-    (from.0, from.1, both_short from.0 c long (omega (arith, ap length from.2.front, length-take (length c) from.0)))
-
-pub cut_length : (I0 I1 : List ℕ → Type 0) → ((c : List ℕ) → I0 c → length c < 18) → Follows (Cut 0) I0 I1 → (c : List ℕ) → I1 c → length c < 18
-cut_length I0 I1 short cut c here =
-    let from = cut c here in
-    let long = short from.0 from.1 in
-    omega (arith, ap length from.2.front, length-take (length c) from.0)
-
-pub written_short : (I0 I1 I2 : List ℕ → Type 0) → ((c : List ℕ) → I0 c → length c < 18) → Follows (Cut 0) I0 I1 → (n : ℕ) → n ≤ 17 → Follows (Torn 0 n) I1 I2 → (c : List ℕ) → I2 c → (x : List ℕ) × I0 x × SameRecords x c
-written_short I0 I1 I2 short cut n le write c here =
+pub written_short : (I0 I1 I2 : List ℕ → Type 0) → ((c : List ℕ) → I0 c → length c < 18) → NoOther I0 I1 → (n : ℕ) → n ≤ 17 → Follows (Torn 0 n) I1 I2 → (c : List ℕ) → I2 c → (x : List ℕ) × I0 x × SameRecords x c
+written_short I0 I1 I2 short others n le write c here =
     let from = write c here in
-    let first = cut from.0 from.1 in
-    let long = cut_length I0 I1 short cut from.0 from.1 in
-    (first.0, first.1, both_short first.0 c (short first.0 first.1) (omega (arith, from.2.no_longer)))
+    let was = others from.0 from.1 in
+    let long = short from.0 was in
+    (from.0, was, both_short from.0 c long (omega (arith, from.2.no_longer)))
 
 pub empty_trimmed : (bytes c : List ℕ) → bytes ≡ header form_1 ++ 0 ∷ [] → c ≡ bytes → IsTrimmed form_1 [] c
 empty_trimmed bytes c is here = record { gate = 0; whole = here ∙ is; shut = λ e. cc; short = omega (arith, ap length (here ∙ is), length-append (header form_1) (0 ∷ []), length-header form_1) }
 
--- a file that was cut to nothing and written
-pub renewed : (reads0 reads1 reads2 reads3 : Option (List ℕ)) (bytes : List ℕ) → bytes ≡ header form_1 ++ 0 ∷ [] → reads1 ≡ option_map (take 0) reads0 → reads2 ≡ option_map (written 0 bytes) reads1 → reads3 ≡ reads2 → (c : List ℕ) → reads3 ≡ Some c → c ≡ bytes
-renewed reads0 reads1 reads2 reads3 bytes is cut write same c reads =
-    let second = mapped (written 0 bytes) reads1 c (sym write ∙ sym same ∙ reads) in
-    let first = mapped (take 0) reads0 second.0 (sym cut ∙ second.1) in
-    let none : drop (0 + length bytes) (take 0 first.0) ≡ [] = drop_all (0 + length bytes) [] (omega arith) in
-    second.2 ∙ ap (written 0 bytes) first.2 ∙ ap (λ (l : List ℕ). bytes ++ l) none ∙ append-nil bytes
+-- a file that was written over from end to end
+pub renewed : (reads0 reads1 reads2 : Option (List ℕ)) (bytes : List ℕ) → ((x : List ℕ) → reads0 ≡ Some x → length x ≤ length bytes) → reads1 ≡ option_map (written 0 bytes) reads0 → reads2 ≡ reads1 → (c : List ℕ) → reads2 ≡ Some c → c ≡ bytes
+renewed reads0 reads1 reads2 bytes short write same c reads =
+    let from = mapped (written 0 bytes) reads0 c (sym write ∙ sym same ∙ reads) in
+    let none : drop (0 + length bytes) from.0 ≡ [] = drop_all (0 + length bytes) from.0 (omega (arith, short from.0 from.1)) in
+    from.2 ∙ ap (λ (l : List ℕ). bytes ++ l) none ∙ append-nil bytes
 
 module _ (file : List ℕ) (gate : ℕ) (bodies : List (List ℕ)) (ends : ClosesAt form_1 bodies gate file) (small : gate < 67108864) where
   split : (n : ℕ) → gate + 1 + n ≡ length (header form_1 ++ (all_record_bytes bodies ++ ends.gate ∷ [])) + n
@@ -103,3 +90,14 @@ module _ (reads0 : Option (List ℕ)) (I0 I1 : List ℕ → Type 0) (gate : ℕ)
         let known = ends from.0 from.1 in
         cut_ends from.0 gate known.0 known.1 small c from.2 ∙ sym is;
   }
+
+-- a file that ends with its closing gate
+pub trimmed_already : (reads0 : Option (List ℕ)) (I0 : List ℕ → Type 0) (gate : ℕ) → gate < 67108864 → OnlyOne I0 reads0 → ((f : List ℕ) → reads0 ≡ Some f → (bodies : List (List ℕ)) × ClosesAt form_1 bodies gate f) → (after : JournalState) (reads1 : Option (List ℕ)) (I : List ℕ → Type 0) → after.file_length ≡ gate + 1 → reads1 ≡ reads0 → NoOther I0 I → ((f : List ℕ) → reads0 ≡ Some f → gate + 1 ≡ length f) → IsOpen after reads1 I
+trimmed_already reads0 I0 gate small one ends after reads1 I is same others whole = record {
+  one = λ c here. same ∙ one c (others c here);
+  trimmed = λ c reads.
+      let before = sym same ∙ reads in
+      let known = ends c before in
+      (known.0, cut_trimmed c gate known.0 known.1 small c (sym (take_all (gate + 1) c (omega (arith, whole c before)))));
+  ends = λ c reads. sym (whole c (sym same ∙ reads)) ∙ sym is;
+}

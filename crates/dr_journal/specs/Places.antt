@@ -1,5 +1,5 @@
 -- Where the gates of a journal stand, and which record is behind one.
-use Rattle.std.specs.Prelude.{◌≡◌, ℕ, ◌+◌, List, ◌∷◌, ◌++◌, Option, length, sum_by}
+use Rattle.std.specs.Prelude.{◌≡◌, ℕ, ◌+◌, List, ◌++◌, Option, length, take, drop, sum_by}
 use Rattle.std.specs.List.{slice_get}
 use Rattle.dr_journal.specs.Reading.{journal_of}
 use Rattle.dr_journal.specs.Reading.Reading.{Whole}
@@ -16,6 +16,6 @@ StandsAt file at = (before : List (List ℕ)) × (after : List (List ℕ)) × (j
 abbrev pub IsNext : List ℕ → ℕ → Option (List ℕ) → Type 0
 IsNext file at next = (before after : List (List ℕ)) → journal_of file ≡ Whole (before ++ after) → at ≡ place_after before → next ≡ slice_get after 0
 
--- the body of the record whose gate stands at this place has this length
-abbrev pub IsSizeOf : List ℕ → ℕ → ℕ → Type 0
-IsSizeOf file at size = (before more : List (List ℕ)) (body : List ℕ) → journal_of file ≡ Whole (before ++ body ∷ more) → at ≡ place_after before → length body ≡ size
+-- these are bytes of the file, from this place on
+abbrev pub AreAt : List ℕ → ℕ → List ℕ → Type 0
+AreAt file place bytes = bytes ≡ take (length bytes) (drop place file)

@@ -11,9 +11,9 @@ ghost use Rattle.dr_journal.specs.State.{IsOpen};
 ghost use Rattle.dr_journal.specs.Causes.{OpenFault, ReserveFault};
 
 use crate::JournalFault;
+use crate::gates::OPEN_GATE;
 use crate::opening::trim;
 use crate::reading::{body_at, synced_length};
-use crate::walk::OPEN_GATE;
 use dr_disk::{Disk, GREATEST_LIMIT};
 use std::alloc::Global;
 use std::marker::Model;
@@ -105,6 +105,7 @@ impl Journal {
     /// The file's length in bytes.
     pub fn length(&self) -> u64
         ensures value { result ≡ self.now.file_length }
+        ensures least { 17 ≤ result }
         ensures most { result ≤ GREATEST_LIMIT }
     {
         self.end
@@ -128,6 +129,8 @@ impl Journal {
             IsNext file at (option_map (λ v. v.items) body))) }
         ensures inside { IfOk result (λ body. IfSome body (λ v. at + (5 + vec_len v) < self.old.file_length)) }
         ensures most { self.old.file_length ≤ GREATEST_LIMIT }
+        // Whether the disk tells its bytes or not.
+        ensures place { IfErr result (λ e. (place : ℕ) → e ≡ JournalFault.Damaged place → place ≡ at) }
         ensures fault { IfErr result (OpenFault (D.reads disk.old) (D.faults disk.old) (D.faults disk.new)) }
         ensures journal { self.new ≡ self.old }
         ensures same { D.reads disk.new ≡ D.reads disk.old }

@@ -3,10 +3,14 @@
 #![tactic(auto)]
 
 mod fault;
+mod gates;
 mod journal;
 mod opening;
 mod reading;
+mod records;
 mod walk;
+mod window;
 
 pub use fault::JournalFault;
 pub use journal::Journal;
+pub use records::Records;

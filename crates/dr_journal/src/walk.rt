@@ -1,33 +1,14 @@
 // The walk over the gates of a file in memory.
-ghost use Rattle.std.specs.Prelude.{◌≡◌, ◌+◌, ◌<◌, ◌≤◌, ◌^◌, List, ℕ, true, length, nat_eq, IfOk, IfErr, MatchOption};
+ghost use Rattle.std.specs.Prelude.{◌≡◌, ◌+◌, ◌<◌, ◌≤◌, ◌^◌, List, ℕ, true, length, nat_eq, IfOk, IfErr};
 ghost use Rattle.std.specs.List.{starts_with};
-ghost use Rattle.dr_journal.specs.Reading.{journal_of, header, form_1, body_size};
+ghost use Rattle.dr_journal.specs.Reading.{journal_of, header, form_1};
 ghost use Rattle.dr_journal.specs.Reading.Reading.{DamagedAt};
 ghost use Rattle.dr_journal.specs.Held.{ClosesAt};
 
-/// A gate with this byte is open, with any other one closed.
-pub(crate) const OPEN_GATE: u8 = 0xA5;
+use crate::gates::{Gate, HEAD, OPEN_GATE, gate_of};
 
 /// The first bytes of a journal's file.
 pub(crate) const HEADER: [u8; 16] = *b"DRDESK journal 1";
-
-// The length of a record's body by the bytes behind its open gate. None where the length field or
-// the body is cut short, or no byte follows for the next gate.
-#[tactic(auto, unfolding(crate::specs::Reading::body_size))]
-fn whole_body_size(bytes: &[u8]) -> Option<usize>
-    ensures { MatchOption result (length bytes.now ≤ 4 + body_size bytes.now) (λ n.
-        (n ≡ body_size bytes.now) × (4 + n < length bytes.now)) }
-{
-    let [a, b, c, d, ..] = bytes else {
-        return None;
-    };
-    let size = u32::from_be_bytes([*a, *b, *c, *d]) as usize;
-    if bytes.len() - 4 <= size {
-        None
-    } else {
-        Some(size)
-    }
-}
 
 // The place of the first closed gate, or of an open one whose record is cut short.
 fn walk_gates(file: &[u8]) -> Result<usize, usize>
@@ -40,9 +21,9 @@ fn walk_gates(file: &[u8]) -> Result<usize, usize>
 {
     let mut at = HEADER.len();
     while file[at] == OPEN_GATE {
-        match whole_body_size(&file[at + 1..]) {
-            None => return Err(at),
-            Some(size) => at += 5 + size,
+        match gate_of(&file[at..], (file.len() - at) as u64) {
+            Gate::Open(size) => at += (HEAD + size) as usize,
+            _ => return Err(at),
         }
     }
     Ok(at)

@@ -6,3 +6,4 @@ mod Whole
 mod Pairs
 mod Machines
 mod KeptOnes
+mod Lines

@@ -1,5 +1,5 @@
 -- Which calls are counted as faults.
-use Rattle.std.specs.Prelude.{ℕ, ◌≡◌, true, false, List, Option, Some, None, Result, Ok, Err}
+use Rattle.std.specs.Prelude.{ℕ, ◌≡◌, ◌≢◌, Bool, true, false, ◌&&◌, List, Option, Some, None, Result, Ok, Err}
 use Rattle.dr_base.specs.Causes.{one_more}
 use Rattle.dr_base.specs.Sides.{other}
 use Rattle.dr_base.specs.declared.side.Side.{Side}
@@ -20,7 +20,7 @@ use Rattle.dr_outside.specs.Arrays.{is_listed}
 use Rattle.dr_outside.specs.BySide.{at, put}
 use Rattle.dr_outside.specs.Counts.{one_more_at}
 use Rattle.dr_outside.specs.Machines.{is_ready_for, post_after}
-use Rattle.dr_outside.specs.Pairs.{is_fit, made, half, target}
+use Rattle.dr_outside.specs.Pairs.{is_fit, made, half, may_fail, target}
 
 -- an array's counts after a call: one more at the side where it failed, and else the same
 abbrev pub ArrayCounts : {T : Type 0} → Sides ℕ → Sides ℕ → Result T ArrayFail → Type 0
@@ -49,6 +49,30 @@ fault_side TestStop source = other source
 fault_side Prepare source = source
 fault_side (Failover run) source = other source
 fault_side Reverse source = source
+
+-- whether this side is down and has a part in a call on a pair
+abbrev pub is_lost_at : ArrayCall → Pair → Sides Bool → Side → Bool
+is_lost_at call pair down side = at side down && may_fail call pair side
+
+-- where a call on a pair is lost: at a side that is down and has a part in it, that of its faults before the other one
+abbrev pub LosesAt : ArrayCall → Pair → Sides Bool → Option Side → Type 0
+LosesAt call pair down None = (side : Side) → is_lost_at call pair down side ≡ false
+LosesAt call pair down (Some side) = (is_lost_at call pair down side ≡ true) × (side ≢ fault_side call pair.source → is_lost_at call pair down (fault_side call pair.source) ≡ false)
+
+-- a side that a list's call is lost at is down
+abbrev pub IsDownAt : Sides Bool → Option Side → Type 0
+IsDownAt down None = Unit {0}
+IsDownAt down (Some side) = at side down ≡ true
+
+-- an array's call that is lost at a side fails there, and counts
+abbrev pub ArrayLost : {T : Type 0} → Option Side → Sides ℕ → Sides ℕ → Result T ArrayFail → Type 0
+ArrayLost None old new result = Unit {0}
+ArrayLost (Some side) old new result = (result ≡ Err (arrays.Failed side)) × (new ≡ one_more_at side old)
+
+-- a port's call at a side that is down fails, and counts there
+abbrev pub PortLost : {T : Type 0} → Bool → Side → Sides ℕ → Sides ℕ → Result T PortFail → Type 0
+PortLost false side old new result = Unit {0}
+PortLost true side old new result = (result ≡ Err ports.Failed) × (new ≡ one_more_at side old)
 
 -- what a call makes of a machine's posts, or the post that isn't as it needs it
 abbrev pub Turns : PortCall → Side → Sides Post → Result (Sides Post) Post → Type 0

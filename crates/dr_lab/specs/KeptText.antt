@@ -1,8 +1,9 @@
 -- The text of a command that ran once.
-use Rattle.std.specs.Prelude.{ℕ, ◌≤◌, List, ◌++◌, codes, decimal, Option, Some, None}
+use Rattle.std.specs.Prelude.{ℕ, ◌≡◌, ◌<◌, ◌≤◌, List, [], ◌∷◌, ◌++◌, length, All, codes, decimal, Option, Some, None}
 use Rattle.dr_base.specs.declared.side.Side.{Side}
 use Rattle.dr_outside.specs.declared.machine.Kept.{Kept}
-use Rattle.dr_lab.specs.Fields.{field}
+use Rattle.dr_outside.specs.Commands.{code_of}
+use Rattle.dr_lab.specs.Fields.{field, NoneThere}
 use Rattle.dr_lab.specs.PairText.{IsLarge, side_word}
 use Rattle.dr_lab.specs.MachineText.{IsName}
 
@@ -22,3 +23,27 @@ kept_text kept = field (codes "token ") 32 (decimal kept.token) ++ (field (codes
 -- which of them there are
 abbrev pub IsKept : Kept → Type 0
 IsKept kept = IsLarge kept.token × (IsCode kept.code × IsName kept.name)
+
+-- the lines of commands that ran
+abbrev pub kept_lines : List Kept → List ℕ
+kept_lines [] = []
+kept_lines (kept ∷ rest) = kept_text kept ++ kept_lines rest
+
+-- bytes begin with the lines of these commands, and these bytes stand behind them
+pub record BeginsWith (bytes : List ℕ) (commands : List Kept) (rest : List ℕ) : Type 0 where
+  pub are : All IsKept commands
+  pub whole : bytes ≡ kept_lines commands ++ rest
+
+-- the code that is known already, or else the one that these commands keep for a token
+abbrev pub code_with : Option ℕ → List Kept → ℕ → Option ℕ
+code_with None commands token = code_of commands token
+code_with (Some code) commands token = Some code
+
+-- lines are taken off the front until fewer than `least` bytes are left, and a code is looked for; or none stands there
+abbrev pub TakesLines : ℕ → ℕ → Option ℕ → List ℕ → Option (Option ℕ × List ℕ) → Type 0
+TakesLines least token code bytes (Some p) = (commands : List Kept) × BeginsWith bytes commands p.1 × (length p.1 < least) × (p.0 ≡ code_with code commands token)
+TakesLines least token code bytes None = (commands : List Kept) × (rest : List ℕ) × BeginsWith bytes commands rest × (least ≤ length rest) × NoneThere IsKept kept_text rest
+
+-- all bytes are lines of commands, which keep this code for a token
+abbrev pub KeepsCode : List ℕ → ℕ → Option ℕ → Type 0
+KeepsCode bytes token code = (commands : List Kept) × BeginsWith bytes commands [] × (code ≡ code_of commands token)

@@ -1,12 +1,14 @@
-ghost use Rattle.std.specs.Prelude.{◌≡◌, ◌≤◌, IfErr};
+ghost use Rattle.std.specs.Prelude.{◌≡◌, ◌≤◌, IfErr, IsTrue, Some};
 ghost use Rattle.dr_base.specs.declared.side.Side.{Side};
 ghost use Rattle.dr_base.specs.Causes.{Rose};
 ghost use Rattle.dr_outside.specs.BySide.{at};
 ghost use Rattle.dr_outside.specs.Counts.{one_more_at};
 ghost use Rattle.dr_outside.specs.Arrays.{ArrayCause, NamesListed};
 ghost use Rattle.dr_lab.specs.Opening.{untold_array};
-ghost use Rattle.dr_lab.specs.Counting.{ArrayCounts, fault_side, Makes, NamesOne};
+ghost use Rattle.dr_lab.specs.Counting.{ArrayCounts, ArrayLost, fault_side, IsDownAt, Makes, NamesOne};
 
+use crate::down::{fault_side, is_down, lost_at, sides_down};
+use crate::opening::opening_pair;
 use crate::site_files::{read_pair_file, write_pair_file};
 use dr_base::{Failed, Side};
 use dr_outside::{Array, ArrayCall, ArrayFail, Half, Pair, Sides};
@@ -16,7 +18,8 @@ use std::rt::Files;
 /// calls that fail, and tells nothing of its pairs.
 ///
 /// A pair that has no file stands as it opens. A file that isn't in the form is a fault of each call
-/// that reads it, and stays as it is. The array knows no consistency groups: a call on a list looks
+/// that reads it, and stays as it is. While a side is down (a file `A.down` or `B.down` lies there),
+/// each call in which it has a part fails at that side and changes nothing. The array knows no consistency groups: a call on a list looks
 /// at all its pairs first, then does one pair after the other, and where it fails it leaves those
 /// before as done.
 #[derive(Debug, Drop)]
@@ -24,16 +27,6 @@ pub struct FileArray<F> {
     rt: F,
     pairs: u32,
     faults: Sides<u64>,
-}
-
-// The side of a call's fault at a pair with this source.
-fn fault_side(call: ArrayCall, source: Side) -> Side
-    ensures { result ≡ fault_side call source }
-{
-    match call {
-        ArrayCall::Sync | ArrayCall::Prepare | ArrayCall::Reverse => source,
-        ArrayCall::TestStart(_) | ArrayCall::TestStop | ArrayCall::Failover(_) => source.other(),
-    }
 }
 
 // The side of a fault at a pair that can't be read: as if its source were A.
@@ -51,6 +44,29 @@ fn made(call: ArrayCall, pair: &Pair) -> Result<Pair, Half>
         return Err(pair.shown_at(pair.source.other()));
     }
     Ok(pair.after(call))
+}
+
+// A pair of the list; one that can't be read counts as one whose source is A.
+fn pair_or_opening<F: Files>(rt: &F, k: u32) -> Pair {
+    match read_pair_file(rt, k) {
+        Ok(pair) => pair,
+        Err(Failed) => opening_pair(),
+    }
+}
+
+// Where a call on a list is lost: at the first pair in which a side that is down has a part.
+fn first_lost<F: Files>(rt: &F, call: ArrayCall, list: &[u32], down: &Sides<bool>) -> Option<Side>
+    ensures { IsDownAt down.now result }
+{
+    if !down.a && !down.b {
+        return None;
+    }
+    for k in list {
+        if let Some(side) = lost_at(call, &pair_or_opening(rt, *k), down) {
+            return Some(side);
+        }
+    }
+    None
 }
 
 // The first pair of the list that isn't as the call needs it, and its target's half. Or the side of
@@ -122,13 +138,22 @@ impl<F: Files> FileArray<F> {
         ArrayFail::Failed(side)
     }
 
-    // One call on a list of pairs.
-    fn run(&mut self, call: ArrayCall, list: &[u32]) -> Result<(), ArrayFail>
+    // One call on a list of pairs, unless it is lost at a side.
+    fn run_unless(
+        &mut self,
+        lost: Option<Side>,
+        call: ArrayCall,
+        list: &[u32],
+    ) -> Result<(), ArrayFail>
         ensures listed { NamesListed list.now result }
         ensures cause { ArrayCause (untold_array self.old.pairs self.old.faults)
             (untold_array self.new.pairs self.new.faults) result }
         ensures count { ArrayCounts self.old.faults self.new.faults result }
+        ensures lost { ArrayLost lost self.old.faults self.new.faults result }
     {
+        if let Some(side) = lost {
+            return Err(self.failed(side));
+        }
         match first_unfit(&self.rt, call, list) {
             Ok(Some((k, half))) => Err(ArrayFail::Wrong(k, half)),
             Ok(None) => match make_each(&self.rt, call, list) {
@@ -136,6 +161,34 @@ impl<F: Files> FileArray<F> {
                 Err(side) => Err(self.failed(side)),
             },
             Err(side) => Err(self.failed(side)),
+        }
+    }
+
+    // One call on a list of pairs.
+    fn run(&mut self, call: ArrayCall, list: &[u32]) -> Result<(), ArrayFail>
+        ensures listed { NamesListed list.now result }
+        ensures cause { ArrayCause (untold_array self.old.pairs self.old.faults)
+            (untold_array self.new.pairs self.new.faults) result }
+        ensures count { ArrayCounts self.old.faults self.new.faults result }
+    {
+        let lost = first_lost(&self.rt, call, list, &sides_down(&self.rt));
+        self.run_unless(lost, call, list)
+    }
+
+    // One look at a pair's file, unless the side is down.
+    fn pair_unless(&mut self, down: bool, i: u32, side: Side) -> Result<Half, ArrayFail>
+        ensures only { IfErr result (λ e. e ≡ ArrayFail.Failed side) }
+        ensures cause { ArrayCause (untold_array self.old.pairs self.old.faults)
+            (untold_array self.new.pairs self.new.faults) result }
+        ensures count { ArrayCounts self.old.faults self.new.faults result }
+        ensures lost { IsTrue down → ArrayLost (Some side) self.old.faults self.new.faults result }
+    {
+        if down {
+            return Err(self.failed(side));
+        }
+        match read_pair_file(&self.rt, i) {
+            Ok(pair) => Ok(pair.shown_at(side)),
+            Err(Failed) => Err(self.failed(side)),
         }
     }
 }
@@ -155,17 +208,15 @@ impl<F: Files> Array for FileArray<F> {
         self.pairs
     }
 
-    /// One look at the pair's file.
+    /// One look whether the side is down, and one at the pair's file.
     fn pair(&mut self, i: u32, side: Side) -> Result<Half, ArrayFail>
         ensures only { IfErr result (λ e. e ≡ ArrayFail.Failed side) }
         ensures cause { ArrayCause (untold_array self.old.pairs self.old.faults)
             (untold_array self.new.pairs self.new.faults) result }
         ensures count { ArrayCounts self.old.faults self.new.faults result }
     {
-        match read_pair_file(&self.rt, i) {
-            Ok(pair) => Ok(pair.shown_at(side)),
-            Err(Failed) => Err(self.failed(side)),
-        }
+        let down = is_down(&self.rt, side);
+        self.pair_unless(down, i, side)
     }
 
     fn sync(&mut self, list: &[u32]) -> Result<(), ArrayFail>

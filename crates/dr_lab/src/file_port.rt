@@ -6,8 +6,9 @@ ghost use Rattle.dr_outside.specs.Counts.{one_more_at};
 ghost use Rattle.dr_outside.specs.ExitCodes.{exit_code};
 ghost use Rattle.dr_outside.specs.Machines.{PortCause, NeverRan, NeverWrong};
 ghost use Rattle.dr_lab.specs.Opening.{untold_port};
-ghost use Rattle.dr_lab.specs.Counting.{PortCounts, Turns};
+ghost use Rattle.dr_lab.specs.Counting.{PortCounts, PortLost, Turns};
 
+use crate::down::is_down;
 use crate::kept_text::kept_now;
 use crate::site_files::{code_kept, keep, kept_file, read_machine_file, write_machine_file};
 use dr_base::{Failed, Name, Placement, Side};
@@ -18,7 +19,8 @@ use std::rt::Files;
 /// second one. It counts the calls that fail, and tells nothing of what it keeps.
 ///
 /// A machine that has no file stands as it opens. A file that isn't in the form is a fault of each
-/// call that reads it, and stays as it is. A command named `exit-N`, N from 0 to 255 without leading
+/// call that reads it, and stays as it is. While a side is down (a file `A.down` or `B.down` lies
+/// there), each call at that side fails and changes nothing. A command named `exit-N`, N from 0 to 255 without leading
 /// zeros, gives the code N; every other one gives 0.
 #[derive(Debug, Drop)]
 pub struct FilePort<F> {
@@ -62,12 +64,16 @@ impl<F: Files> FilePort<F> {
         PortFail::Failed
     }
 
-    // One call that changes a post.
-    fn run(&mut self, call: &PortCall, side: Side) -> Result<(), PortFail>
+    // One call that changes a post, unless the side is down.
+    fn run_unless(&mut self, down: bool, call: &PortCall, side: Side) -> Result<(), PortFail>
         ensures only { NeverRan result }
         ensures cause { PortCause side (untold_port self.old.faults) (untold_port self.new.faults) result }
         ensures count { PortCounts side self.old.faults self.new.faults result }
+        ensures lost { PortLost down side self.old.faults self.new.faults result }
     {
+        if down {
+            return Err(self.failed(side));
+        }
         let sides = match read_machine_file(&self.rt, self.machine) {
             Ok(sides) => sides,
             Err(Failed) => return Err(self.failed(side)),
@@ -80,6 +86,78 @@ impl<F: Files> FilePort<F> {
             Err(found) => Err(PortFail::Wrong(found)),
         }
     }
+
+    // One call that changes a post.
+    fn run(&mut self, call: &PortCall, side: Side) -> Result<(), PortFail>
+        ensures only { NeverRan result }
+        ensures cause { PortCause side (untold_port self.old.faults) (untold_port self.new.faults) result }
+        ensures count { PortCounts side self.old.faults self.new.faults result }
+    {
+        let down = is_down(&self.rt, side);
+        self.run_unless(down, call, side)
+    }
+
+    // One look at the machine's file, unless the side is down.
+    fn post_unless(&mut self, down: bool, side: Side) -> Result<Post, PortFail>
+        ensures only { IfErr result (λ e. e ≡ PortFail.Failed) }
+        ensures cause { PortCause side (untold_port self.old.faults) (untold_port self.new.faults) result }
+        ensures count { PortCounts side self.old.faults self.new.faults result }
+        ensures lost { PortLost down side self.old.faults self.new.faults result }
+    {
+        if down {
+            return Err(self.failed(side));
+        }
+        match read_machine_file(&self.rt, self.machine) {
+            Ok(sides) => Ok(sides.at(side)),
+            Err(Failed) => Err(self.failed(side)),
+        }
+    }
+
+    // One reading of the file of kept commands, unless the side is down.
+    fn ran_unless(&mut self, down: bool, side: Side, token: u64) -> Result<Option<u8>, PortFail>
+        ensures only { IfErr result (λ e. e ≡ PortFail.Failed) }
+        ensures cause { PortCause side (untold_port self.old.faults) (untold_port self.new.faults) result }
+        ensures count { PortCounts side self.old.faults self.new.faults result }
+        ensures lost { PortLost down side self.old.faults self.new.faults result }
+    {
+        if down {
+            return Err(self.failed(side));
+        }
+        match code_kept(&self.rt, &kept_file(self.machine), token) {
+            Ok(code) => Ok(code),
+            Err(Failed) => Err(self.failed(side)),
+        }
+    }
+
+    // One command, unless the side is down.
+    fn command_unless(
+        &mut self,
+        down: bool,
+        side: Side,
+        token: u64,
+        name: Name,
+    ) -> Result<u8, PortFail>
+        ensures only { NeverWrong result }
+        ensures cause { PortCause side (untold_port self.old.faults) (untold_port self.new.faults) result }
+        ensures count { PortCounts side self.old.faults self.new.faults result }
+        ensures lost { PortLost down side self.old.faults self.new.faults result }
+        ensures code { IfOk result (λ code. code ≡ exit_code name) }
+    {
+        if down {
+            return Err(self.failed(side));
+        }
+        let file = kept_file(self.machine);
+        match code_kept(&self.rt, &file, token) {
+            Ok(Some(code)) => return Err(PortFail::Ran(code)),
+            Ok(None) => {}
+            Err(Failed) => return Err(self.failed(side)),
+        }
+        let kept = kept_now(token, name, Some(side));
+        match keep(&self.rt, &file, &kept) {
+            Ok(()) => Ok(kept.code),
+            Err(Failed) => Err(self.failed(side)),
+        }
+    }
 }
 
 impl<F: Files> Port for FilePort<F> {
@@ -89,16 +167,14 @@ impl<F: Files> Port for FilePort<F> {
 
     ghost state = { λ port. untold_port port.faults };
 
-    /// One look at the machine's file.
+    /// One look whether the side is down, and one at the machine's file.
     fn post(&mut self, side: Side) -> Result<Post, PortFail>
         ensures only { IfErr result (λ e. e ≡ PortFail.Failed) }
         ensures cause { PortCause side (untold_port self.old.faults) (untold_port self.new.faults) result }
         ensures count { PortCounts side self.old.faults self.new.faults result }
     {
-        match read_machine_file(&self.rt, self.machine) {
-            Ok(sides) => Ok(sides.at(side)),
-            Err(Failed) => Err(self.failed(side)),
-        }
+        let down = is_down(&self.rt, side);
+        self.post_unless(down, side)
     }
 
     fn register(&mut self, side: Side, place: Placement, bubble: bool) -> Result<(), PortFail>
@@ -133,16 +209,14 @@ impl<F: Files> Port for FilePort<F> {
         self.run(&PortCall::Unregister, side)
     }
 
-    /// One reading of the file of kept commands.
+    /// One look whether the side is down, and one reading of the file of kept commands.
     fn ran(&mut self, side: Side, token: u64) -> Result<Option<u8>, PortFail>
         ensures only { IfErr result (λ e. e ≡ PortFail.Failed) }
         ensures cause { PortCause side (untold_port self.old.faults) (untold_port self.new.faults) result }
         ensures count { PortCounts side self.old.faults self.new.faults result }
     {
-        match code_kept(&self.rt, &kept_file(self.machine), token) {
-            Ok(code) => Ok(code),
-            Err(Failed) => Err(self.failed(side)),
-        }
+        let down = is_down(&self.rt, side);
+        self.ran_unless(down, side, token)
     }
 
     fn command(&mut self, side: Side, token: u64, name: Name) -> Result<u8, PortFail>
@@ -151,16 +225,7 @@ impl<F: Files> Port for FilePort<F> {
         ensures count { PortCounts side self.old.faults self.new.faults result }
         ensures code { IfOk result (λ code. code ≡ exit_code name) }
     {
-        let file = kept_file(self.machine);
-        match code_kept(&self.rt, &file, token) {
-            Ok(Some(code)) => return Err(PortFail::Ran(code)),
-            Ok(None) => {}
-            Err(Failed) => return Err(self.failed(side)),
-        }
-        let kept = kept_now(token, name, Some(side));
-        match keep(&self.rt, &file, &kept) {
-            Ok(()) => Ok(kept.code),
-            Err(Failed) => Err(self.failed(side)),
-        }
+        let down = is_down(&self.rt, side);
+        self.command_unless(down, side, token, name)
     }
 }

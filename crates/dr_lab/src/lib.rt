@@ -2,11 +2,13 @@
 //! files of the current folder. And the machine's clock.
 #![tactic(auto)]
 
+mod down;
 mod fields;
 mod file_array;
 mod file_port;
 mod file_runner;
 mod host_clock;
+mod kept_lines;
 mod kept_text;
 pub mod laws;
 mod machine_text;

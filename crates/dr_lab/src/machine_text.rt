@@ -3,10 +3,9 @@
 ghost use Rattle.std.specs.Prelude.{◌≡◌, ◌+◌, ◌≤◌, ◌++◌, ⊤, length, codes, option_map, Some};
 ghost use Rattle.arrayvec.specs.ArrayVec.{array_vec_len};
 ghost use Rattle.dr_lab.specs.Fields.{field, either_word, Reads, Means};
-ghost use Rattle.dr_lab.specs.MachineText.{IsName, IsFolder, power_word, placed_text, IsPlaced, post_of, post_text, IsPost, machine_text, IsMachine};
+ghost use Rattle.dr_lab.specs.MachineText.{power_word, placed_text, IsPlaced, post_of, post_text, IsPost, machine_text, IsMachine};
 
 use crate::fields::{SmallText, either, name, path, push_field, word};
-use dr_base::{Name, Path, Placement};
 use dr_outside::{Placed, Post, Sides};
 
 /// How far a machine is turned on.
@@ -48,37 +47,6 @@ fn power_line<'a>(bytes: &'a [u8], front: &[u8]) -> Option<(Option<Power>, &'a [
     }
 }
 
-// The placement that these names and this path make.
-pub(crate) fn placed_at(network: &[u8], folder: &[u8], pool: &[u8], bubble: bool) -> Placed
-    requires network { IsName network.now }
-    requires folder { IsFolder folder.now }
-    requires pool { IsName pool.now }
-    ensures { result ≡ record {
-      place = record {
-        network = network.now;
-        folder = folder.now;
-        pool = pool.now;
-      };
-      bubble = bubble;
-    } }
-{
-    let (Some(network), Some(folder), Some(pool)) = (
-        Name::read(network),
-        Path::read(folder),
-        Name::read(pool),
-    ) else {
-        unreachable!();
-    };
-    Placed {
-        place: Placement {
-            network,
-            folder,
-            pool,
-        },
-        bubble,
-    }
-}
-
 fn placed(bytes: &[u8]) -> Option<(Placed, &[u8])>
     ensures { Reads IsPlaced placed_text bytes.now (option_map (λ p. (p.0, p.1.now)) result) }
 {
@@ -92,7 +60,7 @@ fn placed(bytes: &[u8]) -> Option<(Placed, &[u8])>
         return None;
     };
     match either(rest, b"  bubble ", b'\n', b"yes", b"no") {
-        Some((bubble, rest)) => Some((placed_at(network, folder, pool, bubble), rest)),
+        Some((bubble, rest)) => Some((Placed::from_texts(network, folder, pool, bubble), rest)),
         None => None,
     }
 }

@@ -3,9 +3,8 @@
 ghost use Rattle.std.specs.Prelude.{◌≡◌};
 ghost use Rattle.dr_lab.specs.Opening.{opening_pair, opening_machine};
 
-use crate::machine_text::placed_at;
 use dr_base::Side;
-use dr_outside::{Content, Link, Pair, Post, Sides};
+use dr_outside::{Content, Link, Pair, Placed, Post, Sides};
 
 /// A pair that has no file: live from A, with 100 writes at both sides.
 pub(crate) fn opening_pair() -> Pair
@@ -34,7 +33,7 @@ pub(crate) fn opening_machine() -> Sides<Post>
     ensures { result ≡ opening_machine }
 {
     Sides {
-        a: Post::Ready(placed_at(b"A", b"A", b"A", false)),
+        a: Post::Ready(Placed::from_texts(b"A", b"A", b"A", false)),
         b: Post::Placeholder,
     }
 }

@@ -1,11 +1,12 @@
 //! Files of a site: read whole, and replaced whole.
 
-ghost use Rattle.std.specs.Prelude.{◌≡◌, ◌+◌, ◌<◌, ◌≤◌, ◌++◌, length, codes, decimal, IfOk};
+ghost use Rattle.std.specs.Prelude.{◌≡◌, ◌+◌, ◌≤◌, ◌++◌, length, codes, decimal};
 ghost use Rattle.arrayvec.specs.ArrayString.{array_string_len};
 ghost use Rattle.dr_lab.specs.FileNames.{pair_file, machine_file, kept_file, beside};
 
 use crate::fields::SmallText;
-use crate::kept_text::{read_kept, write_kept};
+use crate::kept_lines::code_read;
+use crate::kept_text::write_kept;
 use crate::machine_text::{read_machine, write_machine};
 use crate::opening::{opening_machine, opening_pair};
 use crate::pair_text::{read_pair, write_pair};
@@ -15,7 +16,7 @@ use dr_outside::{Kept, Pair, Post, Sides};
 use itoa::Buffer;
 use std::fs;
 use std::fs::{OpenFile, OpenOptions};
-use std::io::{ErrorKind, Read, Seek, SeekFrom, Write};
+use std::io::{ErrorKind, Read, Write};
 use std::rt::Files;
 
 /// The name of a file.
@@ -23,9 +24,6 @@ pub(crate) type FileName = ArrayString<32>;
 
 /// The length of the longest text of a file that is read whole.
 const TEXT_MOST: u64 = 512;
-
-/// The length of the longest line of a kept command, or more.
-const LINE_MOST: u64 = 160;
 
 fn push_text(name: &mut FileName, text: &str)
     requires { array_string_len name.old + length text.now ≤ 32 }
@@ -140,10 +138,22 @@ fn write_open<H: Write + OpenFile>(file: &mut H, text: &[u8]) -> Result<(), Fail
     }
 }
 
-// Puts the file beside in the file's place.
+// Has the system keep the names of the current folder's files. Without that a loss of power after a
+// rename could bring the old file back.
+fn sync_folder<F: Files>(rt: &F) -> Result<(), Failed> {
+    let Some(folder) = open(rt, ".")? else {
+        return Err(Failed);
+    };
+    match folder.sync_all() {
+        Ok(()) => Ok(()),
+        Err(_) => Err(Failed),
+    }
+}
+
+// Puts the file beside in the file's place, for good.
 fn replace<F: Files>(rt: &F, beside: &str, name: &str) -> Result<(), Failed> {
     match fs::rename(rt, beside, name) {
-        Ok(()) => Ok(()),
+        Ok(()) => sync_folder(rt),
         Err(_) => Err(Failed),
     }
 }
@@ -207,46 +217,10 @@ pub(crate) fn write_machine_file<F: Files>(
     write_whole(rt, &machine_file(machine), write_machine(sides).as_slice())
 }
 
-// The kept command whose line begins at this place, and where the next one begins.
-fn kept_at<H: Read + Seek>(file: &mut H, at: u64, len: u64) -> Result<(Kept, u64), Failed>
-    requires { at < len }
-    ensures { IfOk result (λ p. p.1 ≤ len) }
-{
-    let size = (len - at).min(LINE_MOST) as usize;
-    let mut bytes = [0; 160];
-    let front = &mut bytes[..size];
-    if file.seek(SeekFrom::Start(at)).is_err() {
-        return Err(Failed);
-    }
-    if file.read_exact(front).is_err() {
-        return Err(Failed);
-    }
-    match read_kept(front) {
-        Some((kept, rest)) => Ok((kept, at + (size - rest.len()) as u64)),
-        None => Err(Failed),
-    }
-}
-
 // The code that an open file keeps for a token. The whole file must be in the form.
-fn code_in<H: Read + Seek + OpenFile>(file: &mut H, token: u64) -> Result<Option<u8>, Failed> {
+fn code_in<H: Read + OpenFile>(file: &mut H, token: u64) -> Result<Option<u8>, Failed> {
     let len = length_of(file)?;
-    let mut at = 0;
-    let mut code = None;
-    for _ in 0..len {
-        if at >= len {
-            break;
-        }
-        match kept_at(file, at, len) {
-            Ok((kept, next)) => {
-                if code.is_none() && kept.token == token {
-                    code = Some(kept.code);
-                }
-                at = next;
-            }
-            Err(Failed) => return Err(Failed),
-        }
-    }
-    Ok(code)
+    code_read(file, len, token)
 }
 
 /// The code that is kept for a token in the file of this name. There is none where there is no file.

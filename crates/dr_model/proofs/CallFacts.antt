@@ -1,23 +1,24 @@
 -- What a lawful journal says of a pair at a call: its source, and what is done; so every call of a begun stage keeps the pair's numbers.
 use Rattle.std.specs.Prelude.{◌≡◌, ◌≢◌, ℕ, ◌==◌, Bool, true, false, ◌&&◌, List, [], ◌∷◌, Option, Some, None, IfSome, IsSomeAnd, cond, filter, find}
 use Rattle.std.proofs.Common.{refl, sym, ap, ◌∙◌, inl, inr, arith, subst}
-use Rattle.dr_model.specs.Types.{Op, Link, Pair, StageKind, Stage, Plan, StartPair, Estate, Phase, GroupState}
+use Rattle.dr_meaning.specs.Types.{Op, Link, Pair, Plan, StartPair, Estate, Phase, GroupState}
+use Rattle.dr_meaning.specs.declared.stage.StageKind.{StageKind}
+use Rattle.dr_meaning.specs.declared.stage.Stage.{Stage}
 use Rattle.dr_outside.specs.Pairs.{Frame, frame_of}
-use Rattle.dr_model.specs.Opening.{opening_frame}
-use Rattle.dr_model.specs.Stages.{recovery, stages, start_up, wind_down}
-use Rattle.dr_model.specs.Visits.{Visit, visits}
-use Rattle.dr_model.specs.Runs.{Setting, Run, op, stages_of, holds, is_finished, finish, group_state, last_of_group}
-use Rattle.dr_model.specs.Outcomes.{made_frame, FrameOutcome}
-use Rattle.dr_model.specs.Reach.{Through, FrameStep}
-use Rattle.dr_model.specs.Expected.{After, LeavesFrame}
-use Rattle.dr_model.specs.Lawful.{IsPairRow, SeenFor, StartsFrom, takes_over}
-use Rattle.dr_model.specs.InOrder.{is_start_up}
+use Rattle.dr_meaning.specs.Opening.{opening_frame}
+use Rattle.dr_meaning.specs.Stages.{recovery, stages, start_up, wind_down}
+use Rattle.dr_meaning.specs.Visits.{Visit, visits}
+use Rattle.dr_meaning.specs.Runs.{Setting, Run, op, stages_of, holds, is_finished, finish, group_state, last_of_group}
+use Rattle.dr_meaning.specs.Outcomes.{made_frame, FrameOutcome}
+use Rattle.dr_meaning.specs.Reach.{Through, FrameStep, stage_of}
+use Rattle.dr_meaning.specs.Expected.{After, LeavesFrame}
+use Rattle.dr_meaning.specs.Lawful.{IsPairRow, SeenFor, StartsFrom, takes_over}
+use Rattle.dr_meaning.specs.InOrder.{is_start_up}
 use Rattle.dr_model.proofs.CallSteps.{MayWork, AtCall}
-use Rattle.dr_model.specs.Fits.{row_of, is_recovery, splits, FitsNumbers, FitsPair}
-use Rattle.dr_model.specs.Phases.{IsAtRest, AtRest, IsRecovered}
-use Rattle.dr_model.proofs.Lists.{Each, each-map, each-append, each-find}
+use Rattle.dr_meaning.specs.Fits.{row_of, is_recovery, splits, FitsNumbers, FitsPair}
+use Rattle.dr_meaning.specs.Phases.{IsAtRest, AtRest, IsRecovered}
+use Rattle.dr_meaning.proofs.Lists.{Each, each-map, each-append, each-find}
 use Rattle.dr_model.proofs.StageLaws.{IsCallout, IsWave, each-start_up, each-recovery, wind_down-kind, stage_from-each}
-use Rattle.dr_model.proofs.WalkedLaws.{stage_of}
 use Rattle.dr_model.proofs.WholeTest.{callout_frame, start_frame, start_up_frames}
 use Rattle.dr_model.proofs.WholeMigrate.{stop_frame}
 use Rattle.dr_model.proofs.ExpectedLaws.{filter-find}

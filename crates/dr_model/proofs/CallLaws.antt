@@ -1,12 +1,13 @@
 -- What the array's calls keep of a pair's numbers.
 use Rattle.std.specs.Prelude.{◌≡◌, ℕ, ◌≤◌, ◌⊎◌, Bool, true, false, List, Option, Some, None, IfSome, IsSomeAnd, find}
 use Rattle.std.proofs.Common.{refl, sym, ap, ◌∙◌, inl, inr, subst, arith}
-use Rattle.dr_model.specs.Types.{Side, Sides, Op, Link, Content, Pair, StageKind, StartPair, StartRow}
+use Rattle.dr_meaning.specs.Types.{Side, Sides, Op, Link, Content, Pair, StartPair, StartRow}
+use Rattle.dr_meaning.specs.declared.stage.StageKind.{StageKind}
 use Rattle.dr_base.specs.Sides.{other}
 use Rattle.dr_outside.specs.BySide.{at, put}
 use Rattle.dr_model.proofs.CallSteps.{MayWork, worked, AtCall}
-use Rattle.dr_model.specs.Runs.{migration, Run, Taken, number, op, root, last_of_group}
-use Rattle.dr_model.specs.Fits.{row_of, held, held_by, ReadsAtMost, ReadsAtMostIn, root_start, start_or, is_recovery, is_done_whole, IsReplicating, IsReplicatedTest, HoldsAll, IsSplitBy, IsSplitIn, FitsWrites, FitsNumbers, splits}
+use Rattle.dr_meaning.specs.Runs.{migration, Run, Taken, number, op, root, last_of_group}
+use Rattle.dr_meaning.specs.Fits.{row_of, held, held_by, ReadsAtMost, ReadsAtMostIn, root_start, start_or, is_recovery, is_done_whole, IsReplicating, IsReplicatedTest, HoldsAll, IsSplitBy, IsSplitIn, FitsWrites, FitsNumbers, splits}
 use Rattle.dr_model.proofs.FitsDrift.{if_some, drift_numbers}
 
 -- Sides

@@ -5,25 +5,26 @@ use Rattle.dr_inventory.specs.declared.estate.Machine.{Machine}
 use Rattle.dr_groups.specs.Groups.{IsPairOf, IsMachineOf as IsOfGroup}
 use Rattle.dr_outside.specs.BySide.{at}
 use Rattle.dr_outside.specs.Pairs.{frame_of, Drift, Made, PairStep}
-use Rattle.dr_model.specs.Types.{Sides, Op, Link, ArrayCall, Pair, Post, PlanMachine, Estate, StageKind, Record}
-use Rattle.dr_model.specs.StartUp.{is_started}
-use Rattle.dr_model.specs.Worlds.{World}
-use Rattle.dr_model.specs.Stages.{has, stage_at}
-use Rattle.dr_model.specs.Visits.{begun}
-use Rattle.dr_model.specs.Runs.{Setting, Run, number, op, new, stages_of, holds, is_finished, is_open, run_at, last_of_group, runs_of}
-use Rattle.dr_model.specs.Outcomes.{made_frame}
-use Rattle.dr_model.specs.Lawful.{LawfulAfter}
-use Rattle.dr_model.specs.Fits.{FitsPair, FitsMachine}
-use Rattle.dr_model.specs.InOrder.{is_start_up, is_ready, keeps, IsPairOfMachine, IsServing, MayRun}
-use Rattle.dr_model.specs.Calls.{call_of, CalledBy, Called, CallsPairs}
-use Rattle.dr_model.specs.Sound.{IsKept, IsSoundBy}
-use Rattle.dr_model.specs.Backing.{IsRegularPlan, HasRegularPlans, KeepsOrder}
-use Rattle.dr_model.proofs.Lists.{Each, each-map, each-find, all_each}
-use Rattle.dr_model.proofs.Elements.{has-contains}
+use Rattle.dr_meaning.specs.Types.{Sides, Op, Link, ArrayCall, Pair, Post, PlanMachine, Estate, Record}
+use Rattle.dr_meaning.specs.declared.stage.StageKind.{StageKind}
+use Rattle.dr_meaning.specs.StartUp.{is_started}
+use Rattle.dr_meaning.specs.Worlds.{World}
+use Rattle.dr_meaning.specs.Stages.{has, stage_at}
+use Rattle.dr_meaning.specs.Visits.{begun}
+use Rattle.dr_meaning.specs.Runs.{Setting, Run, number, op, new, stages_of, holds, is_finished, is_open, run_at, last_of_group, runs_of}
+use Rattle.dr_meaning.specs.Outcomes.{made_frame}
+use Rattle.dr_meaning.specs.Lawful.{LawfulAfter}
+use Rattle.dr_meaning.specs.Fits.{FitsPair, FitsMachine}
+use Rattle.dr_meaning.specs.InOrder.{is_start_up, is_ready, keeps, IsPairOfMachine, IsServing, MayRun}
+use Rattle.dr_meaning.specs.Calls.{call_of, CalledBy, Called, CallsPairs}
+use Rattle.dr_meaning.specs.Sound.{IsKept, IsSoundBy}
+use Rattle.dr_meaning.specs.Backing.{IsRegularPlan, HasRegularPlans, KeepsOrder}
+use Rattle.dr_meaning.proofs.Lists.{Each, each-map, each-find, all_each}
+use Rattle.dr_meaning.proofs.Elements.{has-contains, pick}
 use Rattle.dr_model.proofs.StageLaws.{stage_from-each}
 use Rattle.dr_model.proofs.TableLaws.{table-lawful, open_is_last}
 use Rattle.dr_model.proofs.LogLaws.{unfinished}
-use Rattle.dr_model.proofs.ChainLaws.{IsWellKept, HasPlan, kept-lawful, pick}
+use Rattle.dr_model.proofs.ChainLaws.{IsWellKept, HasPlan, kept-lawful}
 use Rattle.dr_model.proofs.PostLaws.{empty_kept}
 use Rattle.dr_model.proofs.SequenceLaws.{sequence-lawful}
 use Rattle.dr_model.proofs.FitsDrift.{drift_fits}

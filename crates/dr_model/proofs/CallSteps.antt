@@ -4,9 +4,10 @@ use Rattle.std.proofs.Common.{refl, sym, ap, inl, inr}
 use Rattle.dr_base.specs.Sides.{other}
 use Rattle.dr_outside.specs.BySide.{at}
 use Rattle.dr_outside.specs.Pairs.{is_live, is_fit, made, Drift, Made}
-use Rattle.dr_model.specs.Types.{Link, Snapshot, ArrayCall, Pair, StageKind}
-use Rattle.dr_model.specs.Calls.{call_of, CalledBy, Called}
-use Rattle.dr_model.specs.Runs.{Run, number, root}
+use Rattle.dr_meaning.specs.Types.{Link, Snapshot, ArrayCall, Pair}
+use Rattle.dr_meaning.specs.declared.stage.StageKind.{StageKind}
+use Rattle.dr_meaning.specs.Calls.{call_of, CalledBy, Called}
+use Rattle.dr_meaning.specs.Runs.{Run, number, root}
 
 -- what a stage's call asks of a pair
 abbrev pub MayWork : StageKind → Pair → Type 0

@@ -4,15 +4,17 @@ use Rattle.std.specs.List.{list_any}
 use Rattle.std.proofs.Common.{refl, sym, ap, ◌∙◌}
 use Rattle.std.proofs.lemmas.Bool.{eqb-true}
 use Rattle.dr_outside.specs.Commands.{code_of}
-use Rattle.dr_model.specs.Types.{StageKind, Stage, Record}
-use Rattle.dr_model.specs.Worlds.{World}
-use Rattle.dr_model.specs.Stages.{stage_at}
-use Rattle.dr_model.specs.Visits.{Visit, visits, mark_done, excuse, open_stage, all}
-use Rattle.dr_model.specs.Runs.{Setting, Run, Taken, root, migration, stages_of, run_at, run_named, add_record}
-use Rattle.dr_model.specs.Lawful.{is_code, is_coded, is_answer, was_answered, token_of, HasCodes, MayCome, LawfulAfter}
-use Rattle.dr_model.specs.InOrder.{keeps}
-use Rattle.dr_model.specs.Sound.{IsKept}
-use Rattle.dr_model.proofs.Lists.{Each, each-map}
+use Rattle.dr_meaning.specs.Types.{Record}
+use Rattle.dr_meaning.specs.declared.stage.StageKind.{StageKind}
+use Rattle.dr_meaning.specs.declared.stage.Stage.{Stage}
+use Rattle.dr_meaning.specs.Worlds.{World}
+use Rattle.dr_meaning.specs.Stages.{stage_at}
+use Rattle.dr_meaning.specs.Visits.{Visit, visits, mark_done, excuse, open_stage, all}
+use Rattle.dr_meaning.specs.Runs.{Setting, Run, Taken, root, migration, stages_of, run_at, run_named, add_record}
+use Rattle.dr_meaning.specs.Lawful.{is_code, is_coded, is_answer, was_answered, token_of, HasCodes, MayCome, LawfulAfter}
+use Rattle.dr_meaning.specs.InOrder.{keeps}
+use Rattle.dr_meaning.specs.Sound.{IsKept}
+use Rattle.dr_meaning.proofs.Lists.{Each, each-map}
 use Rattle.dr_model.proofs.ChainLaws.{and_left, and_right}
 use Rattle.dr_model.proofs.ReachLaws.{with_record}
 use Rattle.dr_model.proofs.ExcuseLaws.{begun_head}

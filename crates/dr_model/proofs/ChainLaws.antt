@@ -2,18 +2,19 @@
 use Rattle.std.specs.Prelude.{◌≡◌, ◌≢◌, ℕ, ◌<◌, ◌==◌, ◌⊎◌, Bool, true, false, ◌&&◌, List, [], ◌∷◌, Option, Some, None, IsTrue, IsSomeAnd, cond, map, filter, find, fold, slice_get, option_map}
 use Rattle.std.proofs.Common.{refl, sym, ap, ◌∙◌, subst, inl, inr, arith}
 use Rattle.std.proofs.lemmas.Bool.{eq-eqb, eqb-true, ne_eqb, cases_eq}
-use Rattle.dr_model.specs.Types.{Op, Estate, Plan, StartRow, Record}
-use Rattle.dr_model.specs.Stages.{has}
-use Rattle.dr_model.specs.Runs.{as_taken, Setting, Run, number, op, holds, is_finished, is_open, finish, group_state, last_of_group, run_at, run_named, take_in, take_over, protected_side, begin_run, add_record, runs_of}
-use Rattle.dr_model.specs.Lawful.{IsPairRow, is_over_test, StartsFrom, takes_over, MayStart, MayCome, LawfulAfter, is_taken_over, number_or_0}
-use Rattle.dr_model.proofs.Lists.{Each, each-map, each-find, each-of-map, find-passes, map-same, find-filter}
+use Rattle.dr_meaning.proofs.Elements.{pick}
+use Rattle.dr_meaning.specs.Types.{Op, Estate, Plan, StartRow, Record}
+use Rattle.dr_meaning.specs.Stages.{has}
+use Rattle.dr_meaning.specs.Runs.{as_taken, Setting, Run, number, op, holds, is_finished, is_open, finish, group_state, last_of_group, run_at, run_named, take_in, take_over, protected_side, begin_run, add_record, runs_of}
+use Rattle.dr_meaning.specs.Lawful.{IsPairRow, is_over_test, StartsFrom, takes_over, MayStart, MayCome, LawfulAfter, is_taken_over, number_or_0}
+use Rattle.dr_meaning.proofs.Lists.{Each, each-map, each-find, each-of-map, find-passes, map-same, find-filter}
 use Rattle.dr_model.proofs.LogLaws.{only_run}
 use Rattle.dr_model.proofs.ExpectedLaws.{Falls, filter-map, filter-find, falls-filter, filter-take_in, take_in_own, take_in_other, holds-take_in}
 use Rattle.dr_model.proofs.TableLaws.{IsTable, table-add_record, table_falls, open_is_last_of, start_take_over}
 use Rattle.dr_model.proofs.PhaseLaws.{IsChain, StartsAt, chain_frames}
-use Rattle.dr_model.specs.Phases.{IsAtRest, AtRest}
+use Rattle.dr_meaning.specs.Phases.{IsAtRest, AtRest}
 use Rattle.dr_outside.specs.Pairs.{Frame}
-use Rattle.dr_model.specs.Expected.{ExpectedFrame}
+use Rattle.dr_meaning.specs.Expected.{ExpectedFrame}
 
 -- the state after the runs that hold the group is the state after all
 pub group_state-filter : (estate : Estate) (g : ℕ) (runs : List Run) → group_state estate g (filter (holds g) runs) ≡ group_state estate g runs
@@ -135,15 +136,6 @@ and_left false b e = absurd cc
 pub and_right : (a b : Bool) → a && b ≡ true → b ≡ true
 and_right true b e = e
 and_right false b e = absurd cc
-
--- what holds of each group holds of one that is listed
-pub pick : (P : ℕ → Type 0) (groups : List ℕ) (g : ℕ) → Each P groups → has groups g ≡ true → P g
-pick P [] g h e = absurd cc
-pick P (x ∷ groups) g h e = go (cases_eq x g) (pick P groups g h.1)
-  where
-    go : (x ≡ g) ⊎ (x ≡ g → ⊥) → (has groups g ≡ true → P g) → P g
-    go (inl same) rest = subst P same h.0
-    go (inr ne) rest = rest (rw (ne_eqb x g ne) at e)
 
 pub positive : (runs : List Run) → IsTable runs → Each (λ q. 0 < number q) runs
 positive [] t = tt

@@ -1,24 +1,25 @@
 -- In a lawful journal a replication that was Ok on a pair shows what its Done asks for.
 use Rattle.std.specs.Prelude.{◌≡◌, ◌≢◌, ℕ, ◌<◌, ◌==◌, ◌⊎◌, true, false, List, [], ◌∷◌, Option, Some, None, IfSome, find, option_map}
 use Rattle.std.proofs.Common.{refl, sym, ap, ◌∙◌, inl, inr, arith, subst}
-use Rattle.dr_model.specs.Types.{Snapshot, Op, Link, Pair, StageKind, Stage, StartPair, Estate, Phase}
+use Rattle.dr_meaning.specs.Types.{Snapshot, Op, Link, Pair, StartPair, Estate, Phase}
+use Rattle.dr_meaning.specs.declared.stage.StageKind.{StageKind}
+use Rattle.dr_meaning.specs.declared.stage.Stage.{Stage}
 use Rattle.dr_outside.specs.Pairs.{Frame, frame_of, Drift}
 use Rattle.dr_outside.specs.BySide.{at}
-use Rattle.dr_model.specs.Opening.{opening_frame}
-use Rattle.dr_model.specs.Stages.{stage_at}
-use Rattle.dr_model.specs.Visits.{Visit, visits}
-use Rattle.dr_model.specs.Runs.{Setting, Run, number, op, new, stages_of, holds, is_finished, group_state, last_of_group}
-use Rattle.dr_model.specs.Outcomes.{made_frame, FrameOutcome}
-use Rattle.dr_model.specs.Reach.{Through, FrameStep, ReachFrame}
-use Rattle.dr_model.specs.Meaning.{same_kind, is_of_kind}
-use Rattle.dr_model.specs.Expected.{After, LeavesFrame}
-use Rattle.dr_model.specs.Lawful.{IsPairRow, SeenFor, StartsFrom, takes_over}
+use Rattle.dr_meaning.specs.Opening.{opening_frame}
+use Rattle.dr_meaning.specs.Stages.{stage_at}
+use Rattle.dr_meaning.specs.Visits.{Visit, visits}
+use Rattle.dr_meaning.specs.Runs.{Setting, Run, number, op, new, stages_of, holds, is_finished, group_state, last_of_group}
+use Rattle.dr_meaning.specs.Outcomes.{made_frame, FrameOutcome}
+use Rattle.dr_meaning.specs.Reach.{Through, FrameStep, ReachFrame, stage_of}
+use Rattle.dr_meaning.specs.Meaning.{same_kind, is_of_kind}
+use Rattle.dr_meaning.specs.Expected.{After, LeavesFrame}
+use Rattle.dr_meaning.specs.Lawful.{IsPairRow, SeenFor, StartsFrom, takes_over}
 use Rattle.dr_model.proofs.CallSteps.{worked}
-use Rattle.dr_model.specs.Fits.{row_of, is_visit_whole, is_done_whole, FitsWrites, FitsPair}
-use Rattle.dr_model.specs.Phases.{IsRecovered}
-use Rattle.dr_model.proofs.Lists.{Each, all_each, each-find, find-passes}
+use Rattle.dr_meaning.specs.Fits.{row_of, is_visit_whole, is_done_whole, FitsWrites, FitsPair}
+use Rattle.dr_meaning.specs.Phases.{IsRecovered}
+use Rattle.dr_meaning.proofs.Lists.{Each, all_each, each-find, find-passes}
 use Rattle.dr_model.proofs.ThroughLaws.{Makes, through_from, some_of-find}
-use Rattle.dr_model.proofs.WalkedLaws.{stage_of}
 use Rattle.dr_model.proofs.WholeMigrate.{at-put, at-put_other}
 use Rattle.dr_model.proofs.WholeSkips.{frame_holds, complete_makes}
 use Rattle.dr_model.proofs.ExpectedLaws.{filter-find}

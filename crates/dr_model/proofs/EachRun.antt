@@ -2,10 +2,10 @@
 use Rattle.std.specs.Prelude.{◌≡◌, ℕ, ◌==◌, Bool, true, false, ◌&&◌, List, [], ◌∷◌, Option, Some, None, IsSomeAnd, cond, map, fold, slice_get}
 use Rattle.std.proofs.Common.{refl, sym, ap, ◌∙◌}
 use Rattle.std.proofs.lemmas.Bool.{eqb-true}
-use Rattle.dr_model.specs.Types.{StartRow, Plan, Record}
-use Rattle.dr_model.specs.Runs.{Setting, Run, number, run_at, run_named, take_in, take_over, begin_run, add_record}
-use Rattle.dr_model.specs.Lawful.{MayStart, MayCome, LawfulAfter}
-use Rattle.dr_model.proofs.Lists.{Each, each-both, each-map, each-of-map}
+use Rattle.dr_meaning.specs.Types.{StartRow, Plan, Record}
+use Rattle.dr_meaning.specs.Runs.{Setting, Run, number, run_at, run_named, take_in, take_over, begin_run, add_record}
+use Rattle.dr_meaning.specs.Lawful.{MayStart, MayCome, LawfulAfter}
+use Rattle.dr_meaning.proofs.Lists.{Each, each-both, each-map, each-of-map}
 use Rattle.dr_model.proofs.TableLaws.{IsTable, table_falls, table-add_record}
 use Rattle.dr_model.proofs.LogLaws.{only_run, some_run}
 use Rattle.dr_model.proofs.ReachLaws.{with_record}

@@ -3,28 +3,30 @@ use Rattle.std.specs.Prelude.{◌++◌, length, ◌+◌, ◌<◌, find, ◌≡�
 use Rattle.std.specs.Bool.{MatchBool}
 use Rattle.std.proofs.Common.{refl, sym, ap, ◌∙◌, inl, inr, subst, arith}
 use Rattle.std.proofs.lemmas.Bool.{eq-eqb, ne_eqb, cases_eq}
-use Rattle.dr_model.specs.Types.{Side, Op, Placed, Post, StageKind, Stage, PlanMachine}
+use Rattle.dr_meaning.specs.Types.{Side, Op, Placed, Post, PlanMachine}
+use Rattle.dr_meaning.specs.declared.stage.StageKind.{StageKind}
+use Rattle.dr_meaning.specs.declared.stage.Stage.{Stage}
 use Rattle.dr_outside.specs.Pairs.{Frame}
 use Rattle.dr_outside.specs.BySide.{at}
 use Rattle.dr_base.specs.Sides.{same_side}
-use Rattle.dr_model.specs.Stages.{no_stage, stage_from, wind_down, has, stages, recovery, array_stage, start_up, stage_at}
-use Rattle.dr_model.specs.Visits.{Visit, visits, all, is_excused}
-use Rattle.dr_model.specs.Runs.{Run, op, stages_of}
-use Rattle.dr_model.specs.Outcomes.{made_frame, stopped, split_frame}
-use Rattle.dr_model.specs.Reach.{Through, is_complete, FrameStep, ReachFrame, works, PostStep, ReachPost}
-use Rattle.dr_model.specs.Meaning.{is_wave_of, same_kind, is_left, is_of_kind, last_visit_of, is_prepare_skipped, FrameMeaning, MeansFrame, OldPostMeaning, NewPostMeaning, MeansPost}
-use Rattle.dr_model.specs.Lawful.{MayFinish}
-use Rattle.dr_model.proofs.Lists.{Each, all_each, each-map, Some_of, some_of-map}
+use Rattle.dr_meaning.specs.Stages.{no_stage, stage_from, wind_down, has, stages, recovery, array_stage, start_up, stage_at}
+use Rattle.dr_meaning.specs.Visits.{Visit, visits, all, is_excused}
+use Rattle.dr_meaning.specs.Runs.{Run, op, stages_of}
+use Rattle.dr_meaning.specs.Outcomes.{made_frame, stopped, split_frame}
+use Rattle.dr_meaning.specs.Reach.{Through, is_complete, FrameStep, ReachFrame, works, PostStep, ReachPost, stage_of}
+use Rattle.dr_meaning.specs.Meaning.{is_wave_of, same_kind, is_left, is_of_kind, last_visit_of, is_prepare_skipped, FrameMeaning, MeansFrame, OldPostMeaning, NewPostMeaning, MeansPost}
+use Rattle.dr_meaning.specs.Lawful.{MayFinish}
+use Rattle.dr_meaning.proofs.Lists.{Each, all_each, each-map, Some_of, some_of-map}
 use Rattle.dr_model.proofs.StageLaws.{IsCallout, IsWave, wind_down-kind, each-start_up, each-start_up_op, IsMachineOf, stage_from-each}
 use Rattle.dr_model.proofs.ThroughLaws.{Keeps, through_keeps, Holds, Makes, through_from}
-use Rattle.dr_model.proofs.WalkedLaws.{stage_of, post_made}
+use Rattle.dr_model.proofs.WalkedLaws.{post_made}
 use Rattle.dr_model.proofs.LogLaws.{IsGoneThrough}
 use Rattle.dr_model.proofs.ExcuseLaws.{ExcusesRightly}
 use Rattle.dr_model.proofs.WholeMigrate.{stopped-same, stopped-stopped, is_running-stopped, moved, at-put, at-put_other}
 use Rattle.dr_model.proofs.NumberLaws.{kind-same}
 use Rattle.dr_model.proofs.WholeSkips.{KeepsOrStops, stop_holds, off_outcome, old_post_either, stop_wave, IsThrough, visit_with, moved_if, split_if, old_sets, has_prepare}
-use Rattle.dr_model.specs.InOrder.{is_start_up}
-use Rattle.dr_model.specs.StartUp.{is_started}
+use Rattle.dr_meaning.specs.InOrder.{is_start_up}
+use Rattle.dr_meaning.specs.StartUp.{is_started}
 use Rattle.dr_model.proofs.ChainLaws.{and_left, and_right}
 use Rattle.dr_model.proofs.WholeTest.{same_side_itself, other_side}
 use Rattle.dr_model.proofs.PostPhase.{StageHolds, post_step-holds, callout_works, elsewhere}

@@ -2,16 +2,17 @@
 use Rattle.std.specs.List.{range_with_len}
 use Rattle.std.specs.Prelude.{◌≡◌, ℕ, true, false, List, [], ◌∷◌, ◌++◌, Option, Some, None, length, map, option_map}
 use Rattle.std.proofs.Common.{refl, inr, inl, arith}
-use Rattle.dr_model.specs.Types.{Callout, PlanMachine, Side, Op, Phase, Estate, Plan, StageKind, Post, Record}
-use Rattle.dr_model.specs.Opening.{opening_frame}
-use Rattle.dr_model.specs.Stages.{stages}
-use Rattle.dr_model.specs.Lawful.{MayCome}
-use Rattle.dr_model.specs.Visits.{all}
-use Rattle.dr_model.specs.Runs.{Setting, Run, runs_of, group_state, run_at}
-use Rattle.dr_model.specs.Meaning.{is_left}
-use Rattle.dr_model.specs.Expected.{ExpectedFrame, ExpectedPost}
-use Rattle.dr_model.specs.Next.{next_stage}
-use Rattle.dr_model.specs.Need.{run_need}
+use Rattle.dr_meaning.specs.Types.{Callout, PlanMachine, Side, Op, Phase, Estate, Plan, Post, Record}
+use Rattle.dr_meaning.specs.declared.stage.StageKind.{StageKind}
+use Rattle.dr_meaning.specs.Opening.{opening_frame}
+use Rattle.dr_meaning.specs.Stages.{stages}
+use Rattle.dr_meaning.specs.Lawful.{MayCome}
+use Rattle.dr_meaning.specs.Visits.{all}
+use Rattle.dr_meaning.specs.Runs.{Setting, Run, runs_of, group_state, run_at}
+use Rattle.dr_meaning.specs.Meaning.{is_left}
+use Rattle.dr_meaning.specs.Expected.{ExpectedFrame, ExpectedPost}
+use Rattle.dr_meaning.specs.Next.{next_stage}
+use Rattle.dr_meaning.specs.Need.{run_need}
 
 abbrev estate : Estate
 estate =

@@ -1,12 +1,14 @@
 -- In a lawful journal no visit of a Split is excused.
 use Rattle.std.specs.Prelude.{◌≡◌, ℕ, Bool, true, false, List, [], ◌∷◌, Some, None, fold}
 use Rattle.std.proofs.Common.{refl, sym, ap, ◌∙◌}
-use Rattle.dr_model.specs.Types.{StageKind, Stage, Record}
-use Rattle.dr_model.specs.Stages.{stage_at}
-use Rattle.dr_model.specs.Visits.{Visit, visits, mark_done, excuse, open_stage}
-use Rattle.dr_model.specs.Runs.{Setting, Run, stages_of, run_at, run_named, add_record}
-use Rattle.dr_model.specs.Lawful.{MaySkipIn, MayCome, LawfulAfter}
-use Rattle.dr_model.proofs.Lists.{Each}
+use Rattle.dr_meaning.specs.Types.{Record}
+use Rattle.dr_meaning.specs.declared.stage.StageKind.{StageKind}
+use Rattle.dr_meaning.specs.declared.stage.Stage.{Stage}
+use Rattle.dr_meaning.specs.Stages.{stage_at}
+use Rattle.dr_meaning.specs.Visits.{Visit, visits, mark_done, excuse, open_stage}
+use Rattle.dr_meaning.specs.Runs.{Setting, Run, stages_of, run_at, run_named, add_record}
+use Rattle.dr_meaning.specs.Lawful.{MaySkipIn, MayCome, LawfulAfter}
+use Rattle.dr_meaning.proofs.Lists.{Each}
 use Rattle.dr_model.proofs.ReachLaws.{with_record}
 use Rattle.dr_model.proofs.EachRun.{each-lawful}
 

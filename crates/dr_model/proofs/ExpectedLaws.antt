@@ -2,19 +2,19 @@
 use Rattle.std.specs.Prelude.{◌≡◌, ℕ, ◌<◌, ◌==◌, ◌⊎◌, Bool, true, false, List, [], ◌∷◌, Some, cond, map, filter, find}
 use Rattle.std.proofs.Common.{refl, sym, ap, ◌∙◌, arith}
 use Rattle.std.proofs.lemmas.Bool.{eq-eqb, ne_eqb}
-use Rattle.dr_model.specs.Types.{Op, Estate, Record}
+use Rattle.dr_meaning.specs.Types.{Op, Estate, Record}
 use Rattle.dr_outside.specs.Pairs.{Frame}
-use Rattle.dr_model.specs.Runs.{Run, number, op, holds, is_finished, last_of_group, run_named, take_in}
-use Rattle.dr_model.specs.Expected.{After, LeavesFrame, ExpectedFrame}
-use Rattle.dr_model.specs.Stages.{has}
-use Rattle.dr_model.specs.Visits.{Visit, visits, all}
-use Rattle.dr_model.specs.Outcomes.{made_frame, FrameOutcome}
-use Rattle.dr_model.specs.Reach.{ReachFrame}
-use Rattle.dr_model.specs.Meaning.{FrameMeaning}
+use Rattle.dr_meaning.specs.Runs.{Run, number, op, holds, is_finished, last_of_group, run_named, take_in}
+use Rattle.dr_meaning.specs.Expected.{After, LeavesFrame, ExpectedFrame}
+use Rattle.dr_meaning.specs.Stages.{has}
+use Rattle.dr_meaning.specs.Visits.{Visit, visits, all}
+use Rattle.dr_meaning.specs.Outcomes.{made_frame, FrameOutcome}
+use Rattle.dr_meaning.specs.Reach.{ReachFrame}
+use Rattle.dr_meaning.specs.Meaning.{FrameMeaning}
 use Rattle.dr_model.proofs.ReachLaws.{begun_visit, kind_at, frame_call, reach_frame-begin, reach_frame-done}
 use Rattle.dr_model.proofs.WalkedLaws.{IsWalked}
 use Rattle.dr_model.proofs.WholeTest.{test_frame}
-use Rattle.dr_model.proofs.Lists.{Each, each-map, each-cond}
+use Rattle.dr_meaning.proofs.Lists.{Each, each-map, each-cond}
 
 -- a change that keeps what a run holds keeps which runs hold a group
 pub filter-map : (p : Run → Bool) (change : Run → Run) → ((r : Run) → p (change r) ≡ p r) → (runs : List Run) → filter p (map change runs) ≡ map change (filter p runs)

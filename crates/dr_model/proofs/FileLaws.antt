@@ -2,22 +2,20 @@
 use Rattle.std.specs.Prelude.{◌≡◌, ℕ, zero, suc, ◌≤◌, ◌⊎◌, List, [], ◌∷◌, ◌++◌, length, take}
 use Rattle.std.proofs.Common.{refl, sym, ap, ◌∙◌, subst, inl, inr, arith}
 use Rattle.std.proofs.lemmas.List.{append-nil}
-use Rattle.dr_inventory.proofs.OneText.{one_estate}
-use Rattle.dr_setting.specs.declared.setting.Setting.{Setting as Whole}
-use Rattle.dr_setting.specs.Settings.{IsSetting}
-use Rattle.dr_setting.proofs.UniqueLaws.{one_setting}
+use Rattle.dr_declared.specs.declared.contents.Declared.{Declared}
+use Rattle.dr_declared.proofs.UniqueLaws.{one_declared}
 use Rattle.dr_records.proofs.Whole.{one_record}
 use Rattle.dr_disk.specs.Disk.{Follows}
 use Rattle.dr_journal.specs.Reading.Reading.{Whole as WholeFile}
 use Rattle.dr_journal.specs.Kept.{SameRecords, Appends, AppendsSome}
 use Rattle.dr_journal.proofs.Laws.{whole_same}
-use Rattle.dr_model.specs.Types.{Record}
-use Rattle.dr_model.specs.Worlds.{World}
-use Rattle.dr_model.specs.Runs.{Setting, Run, runs_of, add_record}
-use Rattle.dr_model.specs.Lawful.{MayCome}
-use Rattle.dr_model.specs.Journals.{Declares, IsSpelled, AreSpelled, HasRecords, Tells, AllTell}
-use Rattle.dr_model.specs.Sound.{IsSoundBy, IsSound, AreSound}
-use Rattle.dr_model.proofs.AppendLaws.{runs_of-append, LawfulAfter-append}
+use Rattle.dr_meaning.specs.Types.{Record}
+use Rattle.dr_meaning.specs.Worlds.{World}
+use Rattle.dr_meaning.specs.Runs.{Setting, Run, runs_of, add_record}
+use Rattle.dr_meaning.specs.Lawful.{MayCome}
+use Rattle.dr_meaning.specs.Journals.{DeclaresSetting, IsSpelled, AreSpelled, HasRecords, Tells, AllTell}
+use Rattle.dr_meaning.specs.Sound.{IsSoundBy, IsSound, AreSound}
+use Rattle.dr_meaning.proofs.AppendLaws.{runs_of-append, LawfulAfter-append}
 
 -- What a file tells is one
 
@@ -42,13 +40,12 @@ one_records file xs ys p q =
     one_list q.bodies xs ys (subst (λ l. AreSpelled l xs) same p.spelled) q.spelled
 
 -- the setting that an estate's text declares is one
-one_declared : (bytes : List ℕ) (s t : Setting) → Declares bytes s → Declares bytes t → s ≡ t
-one_declared bytes s t a b =
-    let estate : s.estate ≡ t.estate = one_estate bytes s.estate t.estate a.text b.text in
-    let whole_s : Whole = record { members = a.members; plans = s.plans } in
-    let whole_t : Whole = record { members = b.members; plans = t.plans } in
-    let whole : whole_s ≡ whole_t = one_setting t.estate whole_s whole_t (subst (λ e. IsSetting e whole_s) estate a.is_setting) b.is_setting in
-    λ i. record { estate = estate i; plans = (whole i).plans }
+one_setting : (bytes : List ℕ) (s t : Setting) → DeclaresSetting bytes s → DeclaresSetting bytes t → s ≡ t
+one_setting bytes s t a b =
+    let declared_s : Declared = record { estate = s.estate; members = a.members; plans = s.plans } in
+    let declared_t : Declared = record { estate = t.estate; members = b.members; plans = t.plans } in
+    let same : declared_s ≡ declared_t = one_declared bytes declared_s declared_t a.declares b.declares in
+    λ i. record { estate = (same i).estate; plans = (same i).plans }
 
 abbrev bytes_of : List Record → List ℕ
 bytes_of (Record.Estate bytes ∷ rest) = bytes
@@ -64,7 +61,7 @@ one_told s t a b file p q =
     let records : Record.Estate p.bytes ∷ p.rest ≡ Record.Estate q.bytes ∷ q.rest = one_records file _ _ p.has q.has in
     let bytes : p.bytes ≡ q.bytes = ap bytes_of records in
     let rest : p.rest ≡ q.rest = ap behind records in
-    let setting : s ≡ t = one_declared q.bytes s t (subst (λ l. Declares l s) bytes p.declares) q.declares in
+    let setting : s ≡ t = one_setting q.bytes s t (subst (λ l. DeclaresSetting l s) bytes p.declares) q.declares in
     (setting, p.runs_are ∙ (λ i. runs_of (setting i) (rest i)) ∙ sym q.runs_are)
 
 -- it isn't empty
@@ -129,7 +126,7 @@ pub append_all : (setting : Setting) (runs : List Run) (item : Record) (body : L
 append_all setting runs item body A B told may is follows c here = let (old, was, appends) = follows c here in append_tells setting runs item body old c (told old was) may is appends
 
 -- and a declaring file, no run
-pub declare_tells : (setting : Setting) (bytes body old new : List ℕ) → HasRecords [] old → Declares bytes setting → IsSpelled body (Record.Estate bytes) → Appends (body ∷ []) old new → Tells setting [] new
+pub declare_tells : (setting : Setting) (bytes body old new : List ℕ) → HasRecords [] old → DeclaresSetting bytes setting → IsSpelled body (Record.Estate bytes) → Appends (body ∷ []) old new → Tells setting [] new
 declare_tells setting bytes body old new empty declares is appends = record {
   bytes = bytes;
   rest = [];
@@ -139,7 +136,7 @@ declare_tells setting bytes body old new empty declares is appends = record {
   runs_are = refl;
 }
 
-pub declare_all : (setting : Setting) (bytes body : List ℕ) (A B : List ℕ → Type 0) → ((file : List ℕ) → A file → HasRecords [] file) → Declares bytes setting → IsSpelled body (Record.Estate bytes) → Follows (Appends (body ∷ [])) A B → AllTell setting [] B
+pub declare_all : (setting : Setting) (bytes body : List ℕ) (A B : List ℕ → Type 0) → ((file : List ℕ) → A file → HasRecords [] file) → DeclaresSetting bytes setting → IsSpelled body (Record.Estate bytes) → Follows (Appends (body ∷ [])) A B → AllTell setting [] B
 declare_all setting bytes body A B empty declares is follows c here = let (old, was, appends) = follows c here in declare_tells setting bytes body old c (empty old was) declares is appends
 
 -- none of one record is appended, or it is
@@ -166,7 +163,7 @@ append_sound setting runs item body world A B told may is follows keeps sound c 
         let by_runs : IsSoundBy setting runs world = sound_by_told setting runs world old (told old was) (sound old was) in
         told_sound setting (add_record setting runs item) world c (append_tells setting runs item body old c (told old was) may is appends) (keeps old was by_runs)
 
-pub declare_sound : (setting : Setting) (bytes body : List ℕ) (world : World) (A B : List ℕ → Type 0) → ((file : List ℕ) → A file → HasRecords [] file) → Declares bytes setting → IsSpelled body (Record.Estate bytes) → Follows (AppendsSome (body ∷ [])) A B
+pub declare_sound : (setting : Setting) (bytes body : List ℕ) (world : World) (A B : List ℕ → Type 0) → ((file : List ℕ) → A file → HasRecords [] file) → DeclaresSetting bytes setting → IsSpelled body (Record.Estate bytes) → Follows (AppendsSome (body ∷ [])) A B
     → IsSoundBy setting [] world → AreSound B world
 declare_sound setting bytes body world A B empty declares is follows sound c here = let (old, was, some) = follows c here in go old was (some_or_same body old c some)
   where

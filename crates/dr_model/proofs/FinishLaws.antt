@@ -3,16 +3,16 @@ use Rattle.std.specs.Prelude.{◌≡◌, ℕ, ◌==◌, Bool, true, false, List,
 use Rattle.std.specs.Bool.{MatchBool}
 use Rattle.std.proofs.Common.{refl, sym, ap, ◌∙◌, subst}
 use Rattle.std.proofs.lemmas.Bool.{eqb-true}
-use Rattle.dr_model.specs.Types.{Side, Op, Placed, Post, PlanMachine, Record}
+use Rattle.dr_meaning.specs.Types.{Side, Op, Placed, Post, PlanMachine, Record}
 use Rattle.dr_outside.specs.Pairs.{Frame}
 use Rattle.dr_base.specs.Sides.{other, same_side}
-use Rattle.dr_model.specs.Stages.{stages}
-use Rattle.dr_model.specs.Runs.{Setting, Run, number, op, new, holds, is_finished, is_open, last_of_group, run_at, take_in, add_record}
-use Rattle.dr_model.specs.Reach.{ReachFrame, ReachPost}
-use Rattle.dr_model.specs.Meaning.{FrameMeaning, MeansFrame, OldPostMeaning, NewPostMeaning, MeansPost}
-use Rattle.dr_model.specs.Expected.{wanted, LeavesFrame, ExpectedFrame, ExpectedPost}
-use Rattle.dr_model.specs.Lawful.{MayFinish, MayCome}
-use Rattle.dr_model.proofs.Lists.{Each, each-find, each-map, find-passes}
+use Rattle.dr_meaning.specs.Stages.{stages}
+use Rattle.dr_meaning.specs.Runs.{Setting, Run, number, op, new, holds, is_finished, is_open, last_of_group, run_at, take_in, add_record}
+use Rattle.dr_meaning.specs.Reach.{ReachFrame, ReachPost}
+use Rattle.dr_meaning.specs.Meaning.{FrameMeaning, MeansFrame, OldPostMeaning, NewPostMeaning, MeansPost}
+use Rattle.dr_meaning.specs.Expected.{wanted, LeavesFrame, ExpectedFrame, ExpectedPost}
+use Rattle.dr_meaning.specs.Lawful.{MayFinish, MayCome}
+use Rattle.dr_meaning.proofs.Lists.{Each, each-find, each-map, find-passes}
 use Rattle.dr_model.proofs.StageLaws.{IsMachineOf}
 use Rattle.dr_model.proofs.ReachLaws.{with_record}
 use Rattle.dr_model.proofs.ExpectedLaws.{after-take_in, after-take_in_elsewhere, frame_meaning-finish}

@@ -4,23 +4,23 @@ use Rattle.std.proofs.Common.{refl, sym, ap, ◌∙◌, inl, inr, arith, subst}
 use Rattle.dr_base.specs.Sides.{other}
 use Rattle.dr_outside.specs.BySide.{at, only}
 use Rattle.dr_outside.specs.Pairs.{Frame, frame_of, is_fit}
-use Rattle.dr_model.specs.Types.{Side, Op, Link, Snapshot, ArrayCall, Pair, StageKind, Estate, Phase}
-use Rattle.dr_model.specs.Opening.{opening_frame}
-use Rattle.dr_model.specs.Stages.{stages, wind_down, stage_at}
-use Rattle.dr_model.specs.Visits.{Visit, visits}
-use Rattle.dr_model.specs.Runs.{Setting, Run, number, op, new, stages_of, holds, is_finished, group_state, last_of_group}
-use Rattle.dr_model.specs.Outcomes.{made_frame, FrameOutcome}
-use Rattle.dr_model.specs.Reach.{Through, FrameStep, ReachFrame}
-use Rattle.dr_model.specs.Meaning.{same_kind, is_of_kind}
-use Rattle.dr_model.specs.Expected.{After, LeavesFrame}
-use Rattle.dr_model.specs.Lawful.{StartsFrom, takes_over}
-use Rattle.dr_model.specs.InOrder.{is_start_up}
-use Rattle.dr_model.specs.Fits.{FitsPair}
-use Rattle.dr_model.specs.Calls.{call_of, IsLeftOut}
-use Rattle.dr_model.specs.Phases.{IsRecovered}
-use Rattle.dr_model.proofs.Lists.{Each, Some_of, all_each, each-find, each-map, some_of-right}
+use Rattle.dr_meaning.specs.Types.{Side, Op, Link, Snapshot, ArrayCall, Pair, Estate, Phase}
+use Rattle.dr_meaning.specs.declared.stage.StageKind.{StageKind}
+use Rattle.dr_meaning.specs.Opening.{opening_frame}
+use Rattle.dr_meaning.specs.Stages.{stages, wind_down, stage_at}
+use Rattle.dr_meaning.specs.Visits.{Visit, visits}
+use Rattle.dr_meaning.specs.Runs.{Setting, Run, number, op, new, stages_of, holds, is_finished, group_state, last_of_group}
+use Rattle.dr_meaning.specs.Outcomes.{made_frame, FrameOutcome}
+use Rattle.dr_meaning.specs.Reach.{Through, FrameStep, ReachFrame, stage_of}
+use Rattle.dr_meaning.specs.Meaning.{same_kind, is_of_kind}
+use Rattle.dr_meaning.specs.Expected.{After, LeavesFrame}
+use Rattle.dr_meaning.specs.Lawful.{StartsFrom, takes_over}
+use Rattle.dr_meaning.specs.InOrder.{is_start_up}
+use Rattle.dr_meaning.specs.Fits.{FitsPair}
+use Rattle.dr_meaning.specs.Calls.{call_of, IsLeftOut}
+use Rattle.dr_meaning.specs.Phases.{IsRecovered}
+use Rattle.dr_meaning.proofs.Lists.{Each, Some_of, all_each, each-find, each-map, some_of-right}
 use Rattle.dr_model.proofs.StageLaws.{stage_from-each}
-use Rattle.dr_model.proofs.WalkedLaws.{stage_of}
 use Rattle.dr_model.proofs.WholeMigrate.{at-put, at_other-put}
 use Rattle.dr_model.proofs.ExpectedLaws.{filter-find}
 use Rattle.dr_model.proofs.PhaseLaws.{incomplete_step, IsChain, StartsAt, Opens, UnderWay, chain_frames, after_unfinished}

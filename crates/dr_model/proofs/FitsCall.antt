@@ -1,25 +1,25 @@
 -- In a lawful journal every call of the begun stage, Ok or Failed, leads from a pair that fits to one that fits.
 use Rattle.std.specs.Prelude.{◌≡◌, ℕ, ◌⊎◌, true, false, List, [], ◌∷◌, Some}
 use Rattle.std.proofs.Common.{refl, sym, ap, ◌∙◌, inl, inr, arith, subst}
-use Rattle.dr_model.specs.Types.{Op, Link, Pair, StageKind, Estate, Phase}
+use Rattle.dr_meaning.specs.Types.{Op, Link, Pair, Estate, Phase}
+use Rattle.dr_meaning.specs.declared.stage.StageKind.{StageKind}
 use Rattle.dr_outside.specs.Pairs.{Frame, frame_of}
 use Rattle.dr_outside.specs.BySide.{put}
 use Rattle.dr_base.specs.Sides.{other}
-use Rattle.dr_model.specs.Stages.{stage_at}
-use Rattle.dr_model.specs.Visits.{Visit, visits}
-use Rattle.dr_model.specs.Runs.{Setting, Run, op, stages_of, holds, is_finished, group_state, last_of_group}
-use Rattle.dr_model.specs.Outcomes.{made_frame, FrameOutcome}
-use Rattle.dr_model.specs.Reach.{Through, FrameStep, ReachFrame}
-use Rattle.dr_model.specs.Meaning.{same_kind, is_of_kind}
-use Rattle.dr_model.specs.Expected.{After, LeavesFrame, ExpectedFrame}
-use Rattle.dr_model.specs.Lawful.{StartsFrom, takes_over}
-use Rattle.dr_model.specs.InOrder.{is_start_up}
+use Rattle.dr_meaning.specs.Stages.{stage_at}
+use Rattle.dr_meaning.specs.Visits.{Visit, visits}
+use Rattle.dr_meaning.specs.Runs.{Setting, Run, op, stages_of, holds, is_finished, group_state, last_of_group}
+use Rattle.dr_meaning.specs.Outcomes.{made_frame, FrameOutcome}
+use Rattle.dr_meaning.specs.Reach.{Through, FrameStep, ReachFrame, stage_of}
+use Rattle.dr_meaning.specs.Meaning.{same_kind, is_of_kind}
+use Rattle.dr_meaning.specs.Expected.{After, LeavesFrame, ExpectedFrame}
+use Rattle.dr_meaning.specs.Lawful.{StartsFrom, takes_over}
+use Rattle.dr_meaning.specs.InOrder.{is_start_up}
 use Rattle.dr_model.proofs.CallSteps.{MayWork, worked, AtCall}
-use Rattle.dr_model.specs.Fits.{is_recovery, FitsPair}
-use Rattle.dr_model.specs.Phases.{IsRecovered}
-use Rattle.dr_model.proofs.Lists.{Each, each-find}
+use Rattle.dr_meaning.specs.Fits.{is_recovery, FitsPair}
+use Rattle.dr_meaning.specs.Phases.{IsRecovered}
+use Rattle.dr_meaning.proofs.Lists.{Each, each-find}
 use Rattle.dr_model.proofs.StageLaws.{stage_from-each}
-use Rattle.dr_model.proofs.WalkedLaws.{stage_of}
 use Rattle.dr_model.proofs.ReachLaws.{kind_at}
 use Rattle.dr_model.proofs.OutcomeLaws.{made_frame_twice}
 use Rattle.dr_model.proofs.ExpectedLaws.{filter-find, frame-call}

@@ -1,12 +1,12 @@
 -- What fits still fits after a drift.
 use Rattle.std.specs.Prelude.{◌≡◌, ℕ, ◌≤◌, ◌⊎◌, not, Bool, true, false, List, Option, Some, None, IfSome}
 use Rattle.std.proofs.Common.{refl, sym, ap, ◌∙◌, inl, inr, arith}
-use Rattle.dr_model.specs.Types.{Side, Link, Content, Pair, Estate, StartPair, StartRow}
+use Rattle.dr_meaning.specs.Types.{Side, Link, Content, Pair, Estate, StartPair, StartRow}
 use Rattle.dr_base.specs.Sides.{other, same_side}
 use Rattle.dr_outside.specs.BySide.{at}
 use Rattle.dr_outside.specs.Pairs.{frame_of, is_live, is_target, Grows, Follows, Drift}
-use Rattle.dr_model.specs.Runs.{migration, Run, number, new, root}
-use Rattle.dr_model.specs.Fits.{held, ReadsAtMost, IsReplicating, IsSplitBy, IsReplicatedTest, HoldsAll, FitsWrites, FitsNumbers, FitsPair, row_of, root_start}
+use Rattle.dr_meaning.specs.Runs.{migration, Run, number, new, root}
+use Rattle.dr_meaning.specs.Fits.{held, ReadsAtMost, IsReplicating, IsSplitBy, IsReplicatedTest, HoldsAll, FitsWrites, FitsNumbers, FitsPair, row_of, root_start}
 use Rattle.dr_outside.proofs.Drifts.{grows_refl, source_grows, source_is_no_target}
 
 same_link : (p q : Pair) → Drift p q → q.link ≡ p.link

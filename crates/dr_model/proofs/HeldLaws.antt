@@ -2,23 +2,23 @@
 use Rattle.std.specs.Prelude.{◌≡◌, ◌≢◌, ℕ, ◌<◌, ◌≤◌, ◌⊎◌, Bool, true, false, List, [], ◌∷◌, Some, find}
 use Rattle.std.proofs.Common.{refl, sym, ap, ◌∙◌, inl, inr, arith, subst}
 use Rattle.std.proofs.lemmas.Bool.{cases_lt, cases_eq}
-use Rattle.dr_model.specs.Types.{GroupState, Op, Link, Pair, StageKind, Estate, Phase}
+use Rattle.dr_meaning.specs.Types.{GroupState, Op, Link, Pair, Estate, Phase}
+use Rattle.dr_meaning.specs.declared.stage.StageKind.{StageKind}
 use Rattle.dr_outside.specs.Pairs.{Frame, frame_of}
-use Rattle.dr_model.specs.Opening.{opening_frame}
-use Rattle.dr_model.specs.Stages.{stages, recovery, wind_down, stage_at}
-use Rattle.dr_model.specs.Visits.{Visit, visits}
-use Rattle.dr_model.specs.Runs.{Setting, Run, migration, migration_of, as_taken, op, stages_of, holds, is_finished, group_state, last_of_group}
-use Rattle.dr_model.specs.Outcomes.{made_frame, FrameOutcome}
-use Rattle.dr_model.specs.Reach.{Through, FrameStep, ReachFrame}
-use Rattle.dr_model.specs.Meaning.{same_kind, is_of_kind}
-use Rattle.dr_model.specs.Expected.{After, LeavesFrame}
-use Rattle.dr_model.specs.Lawful.{StartsFrom, takes_over}
-use Rattle.dr_model.specs.InOrder.{is_start_up}
-use Rattle.dr_model.specs.Fits.{is_visit_whole, is_done_whole, is_frozen_and_replicated, HoldsAll, FitsWrites, FitsPair}
-use Rattle.dr_model.proofs.Lists.{Each, each-find, Some_of, some_of-right, some_of-map}
+use Rattle.dr_meaning.specs.Opening.{opening_frame}
+use Rattle.dr_meaning.specs.Stages.{stages, recovery, wind_down, stage_at}
+use Rattle.dr_meaning.specs.Visits.{Visit, visits}
+use Rattle.dr_meaning.specs.Runs.{Setting, Run, migration, migration_of, as_taken, op, stages_of, holds, is_finished, group_state, last_of_group}
+use Rattle.dr_meaning.specs.Outcomes.{made_frame, FrameOutcome}
+use Rattle.dr_meaning.specs.Reach.{Through, FrameStep, ReachFrame, stage_of}
+use Rattle.dr_meaning.specs.Meaning.{same_kind, is_of_kind}
+use Rattle.dr_meaning.specs.Expected.{After, LeavesFrame}
+use Rattle.dr_meaning.specs.Lawful.{StartsFrom, takes_over}
+use Rattle.dr_meaning.specs.InOrder.{is_start_up}
+use Rattle.dr_meaning.specs.Fits.{is_visit_whole, is_done_whole, is_frozen_and_replicated, HoldsAll, FitsWrites, FitsPair}
+use Rattle.dr_meaning.proofs.Lists.{Each, each-find, Some_of, some_of-right, some_of-map}
 use Rattle.dr_model.proofs.StageLaws.{stage_from-each}
 use Rattle.dr_model.proofs.ThroughLaws.{find-some_of}
-use Rattle.dr_model.proofs.WalkedLaws.{stage_of}
 use Rattle.dr_model.proofs.ExpectedLaws.{each-filter, filter-find}
 use Rattle.dr_model.proofs.LogLaws.{DoneBefore}
 use Rattle.dr_model.proofs.PhaseLaws.{incomplete_step, IsChain, StartsAt, Opens, chain_frames}

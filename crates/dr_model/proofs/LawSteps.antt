@@ -6,26 +6,26 @@ use Rattle.dr_outside.specs.BySide.{at}
 use Rattle.dr_outside.specs.declared.pair.Half.{Half}
 use Rattle.dr_outside.specs.Arrays.{is_listed, IsWrong}
 use Rattle.dr_outside.specs.Pairs.{frame_of, is_fit, Drift, Made}
-use Rattle.dr_model.specs.Types.{Side, Op, Link, ArrayCall, Pair, Placed, Post, Plan, PlanMachine, StageKind, StartRow, Record}
-use Rattle.dr_model.specs.StartUp.{is_started}
-use Rattle.dr_model.specs.Worlds.{World}
-use Rattle.dr_model.specs.Stages.{has, stage_at}
-use Rattle.dr_model.specs.Visits.{Visit, visits, open_stage, begun, all}
-use Rattle.dr_model.specs.Runs.{Setting, Run, number, op, new, stages_of, holds, is_finished, is_open, run_at, last_of_group, take_in, take_over, begin_run, add_record, runs_of}
-use Rattle.dr_model.specs.Outcomes.{made_frame}
-use Rattle.dr_model.specs.Lawful.{MayStart, MayFinish, MayCome, LawfulAfter}
-use Rattle.dr_model.specs.Fits.{FitsPair}
-use Rattle.dr_model.specs.InOrder.{is_start_up, InOrder}
-use Rattle.dr_model.specs.Calls.{call_of, Called, IsLeftOut, IsForCall, MadeBy, IsWorked}
-use Rattle.dr_model.specs.Sound.{IsKept, IsSoundBy}
-use Rattle.dr_model.specs.Backing.{IsRegularPlan, HasRegularPlans, IsEntry, IsPlain, Shows, BacksPair, BacksDone, BacksStart}
-use Rattle.dr_model.proofs.Lists.{Each, each-find}
+use Rattle.dr_meaning.specs.Types.{Side, Op, Link, ArrayCall, Pair, Placed, Post, Plan, PlanMachine, StartRow, Record}
+use Rattle.dr_meaning.specs.declared.stage.StageKind.{StageKind}
+use Rattle.dr_meaning.specs.StartUp.{is_started}
+use Rattle.dr_meaning.specs.Worlds.{World}
+use Rattle.dr_meaning.specs.Stages.{has, stage_at}
+use Rattle.dr_meaning.specs.Visits.{Visit, visits, open_stage, begun, all}
+use Rattle.dr_meaning.specs.Runs.{Setting, Run, number, op, new, stages_of, holds, is_finished, is_open, run_at, last_of_group, take_in, take_over, begin_run, add_record, runs_of}
+use Rattle.dr_meaning.specs.Outcomes.{made_frame}
+use Rattle.dr_meaning.specs.Lawful.{MayStart, MayFinish, MayCome, LawfulAfter}
+use Rattle.dr_meaning.specs.Fits.{FitsPair}
+use Rattle.dr_meaning.specs.InOrder.{is_start_up, InOrder}
+use Rattle.dr_meaning.specs.Calls.{call_of, Called, IsLeftOut, IsForCall, MadeBy, IsWorked}
+use Rattle.dr_meaning.specs.Sound.{IsKept, IsSoundBy}
+use Rattle.dr_meaning.specs.Backing.{IsRegularPlan, HasRegularPlans, IsEntry, IsPlain, Shows, BacksPair, BacksDone, BacksStart}
+use Rattle.dr_meaning.proofs.Lists.{Each, each-find}
 use Rattle.dr_model.proofs.ChainLaws.{IsWellKept, HasPlan, kept-lawful, fresh_run}
 use Rattle.dr_model.proofs.PostLaws.{empty_kept}
 use Rattle.dr_model.proofs.SequenceLaws.{IsInSequence, sequence-lawful}
 use Rattle.dr_model.proofs.FitsDrift.{drift_fits}
 use Rattle.dr_model.proofs.CallSteps.{AtCall, MayWork, made_step, called_step}
-use Rattle.dr_model.proofs.WalkedLaws.{stage_of}
 use Rattle.dr_model.proofs.ShowLaws.{IsReplication}
 use Rattle.dr_model.proofs.FitsCall.{fits_at_call, made_at_call}
 use Rattle.dr_model.proofs.DoneFacts.{shown_after}
@@ -39,10 +39,10 @@ use Rattle.dr_model.proofs.LogLaws.{IsGoneThrough, gone-lawful, unfinished}
 use Rattle.dr_model.proofs.TableLaws.{open_is_last, table-lawful}
 use Rattle.dr_model.proofs.ExcuseLaws.{ExcusesRightly, excuses-lawful}
 use Rattle.dr_model.proofs.FinishLaws.{finish_post}
-use Rattle.dr_model.specs.Reach.{ReachPost}
-use Rattle.dr_model.specs.Meaning.{MeansPost}
+use Rattle.dr_meaning.specs.Reach.{ReachPost, stage_of}
+use Rattle.dr_meaning.specs.Meaning.{MeansPost}
 use Rattle.dr_model.proofs.SoundStart.{sound-start}
-use Rattle.dr_model.proofs.Elements.{each-contains, has-contains}
+use Rattle.dr_meaning.proofs.Elements.{each-contains, has-contains}
 use Rattle.dr_model.proofs.Regular.{as_entry, planned_machine}
 
 -- the visit of the begun stage

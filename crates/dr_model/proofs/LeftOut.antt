@@ -5,23 +5,23 @@ use Rattle.std.proofs.lemmas.Bool.{cases_lt, cases_eq}
 use Rattle.dr_base.specs.Sides.{other}
 use Rattle.dr_outside.specs.BySide.{at, put}
 use Rattle.dr_outside.specs.Pairs.{Frame, frame_of, Drift}
-use Rattle.dr_model.specs.Types.{Side, Sides, Op, Link, Snapshot, Pair, StageKind, Estate, Phase}
-use Rattle.dr_model.specs.Opening.{opening_frame}
-use Rattle.dr_model.specs.Stages.{stages, wind_down, stage_at}
-use Rattle.dr_model.specs.Visits.{Visit, visits}
-use Rattle.dr_model.specs.Runs.{Setting, Run, new, op, stages_of, holds, is_finished, group_state, last_of_group}
-use Rattle.dr_model.specs.Outcomes.{made_frame}
-use Rattle.dr_model.specs.Reach.{FrameStep, ReachFrame}
-use Rattle.dr_model.specs.Meaning.{is_of_kind}
-use Rattle.dr_model.specs.Expected.{After, LeavesFrame}
-use Rattle.dr_model.specs.Lawful.{StartsFrom}
-use Rattle.dr_model.specs.InOrder.{is_start_up}
-use Rattle.dr_model.specs.Fits.{is_recovery, is_visit_whole, is_done_whole, FitsPair}
-use Rattle.dr_model.specs.Calls.{IsLeftOut}
-use Rattle.dr_model.proofs.Lists.{Each, Some_of, all_each, each-find, each-map, find-passes, some_of-map, some_of-right}
+use Rattle.dr_meaning.specs.Types.{Side, Sides, Op, Link, Snapshot, Pair, Estate, Phase}
+use Rattle.dr_meaning.specs.declared.stage.StageKind.{StageKind}
+use Rattle.dr_meaning.specs.Opening.{opening_frame}
+use Rattle.dr_meaning.specs.Stages.{stages, wind_down, stage_at}
+use Rattle.dr_meaning.specs.Visits.{Visit, visits}
+use Rattle.dr_meaning.specs.Runs.{Setting, Run, new, op, stages_of, holds, is_finished, group_state, last_of_group}
+use Rattle.dr_meaning.specs.Outcomes.{made_frame}
+use Rattle.dr_meaning.specs.Reach.{FrameStep, ReachFrame, stage_of}
+use Rattle.dr_meaning.specs.Meaning.{is_of_kind}
+use Rattle.dr_meaning.specs.Expected.{After, LeavesFrame}
+use Rattle.dr_meaning.specs.Lawful.{StartsFrom}
+use Rattle.dr_meaning.specs.InOrder.{is_start_up}
+use Rattle.dr_meaning.specs.Fits.{is_recovery, is_visit_whole, is_done_whole, FitsPair}
+use Rattle.dr_meaning.specs.Calls.{IsLeftOut}
+use Rattle.dr_meaning.proofs.Lists.{Each, Some_of, all_each, each-find, each-map, find-passes, some_of-map, some_of-right}
 use Rattle.dr_model.proofs.StageLaws.{stage_from-each}
 use Rattle.dr_model.proofs.ThroughLaws.{Makes, through_from, some_of-find, find-some_of}
-use Rattle.dr_model.proofs.WalkedLaws.{stage_of}
 use Rattle.dr_model.proofs.WholeMigrate.{at-put, at_other-put}
 use Rattle.dr_model.proofs.WholeSkips.{frame_holds, complete_makes}
 use Rattle.dr_model.proofs.ExpectedLaws.{filter-find}

@@ -1,6 +1,3 @@
-pub mod Lists
-pub mod Elements
-pub mod StageLists
 pub mod StageLaws
 pub mod ThroughLaws
 pub mod WalkedLaws
@@ -11,7 +8,6 @@ pub mod WholeMigrate
 pub mod WholeFailover
 pub mod ExpectedLaws
 pub mod PostWalk
-pub mod AppendLaws
 pub mod TableLaws
 pub mod LogLaws
 pub mod PhaseLaws

@@ -2,16 +2,16 @@
 use Rattle.std.specs.Prelude.{◌≡◌, ◌≢◌, ℕ, ◌<◌, ◌==◌, Bool, true, false, not, ◌&&◌, List, [], ◌∷◌, Option, Some, None, IsTrue, IsSomeAnd, cond, map, fold, slice_get}
 use Rattle.std.proofs.Common.{refl, sym, ap, ◌∙◌, arith}
 use Rattle.std.proofs.lemmas.Bool.{eqb-true, eq-eqb}
-use Rattle.dr_model.specs.Types.{Op, StartRow, Plan, Record}
-use Rattle.dr_model.specs.Visits.{Visit, visits, mark_done, excuse, open_stage}
-use Rattle.dr_model.specs.Runs.{Setting, Run, number, op, holds, is_open, is_finished, run_at, run_named, take_in, take_over, begin_run, add_record}
-use Rattle.dr_model.specs.Lawful.{MayFinish, MayCome, LawfulAfter}
-use Rattle.dr_model.proofs.Lists.{Each, each-both, each-map, each-of-map, each-find}
+use Rattle.dr_meaning.specs.Types.{Op, StartRow, Plan, Record}
+use Rattle.dr_meaning.specs.Visits.{Visit, visits, mark_done, excuse, open_stage}
+use Rattle.dr_meaning.specs.Runs.{Setting, Run, number, op, holds, is_open, is_finished, run_at, run_named, take_in, take_over, begin_run, add_record}
+use Rattle.dr_meaning.specs.Lawful.{MayFinish, MayCome, LawfulAfter}
+use Rattle.dr_meaning.proofs.Lists.{Each, each-both, each-map, each-of-map, each-find}
 use Rattle.dr_model.proofs.ExpectedLaws.{Falls, frame-finish_test}
 use Rattle.dr_model.proofs.TableLaws.{IsTable, table-lawful, open_is_last, table_falls, table-add_record}
 use Rattle.dr_model.proofs.WalkedLaws.{IsWhole, IsWalked}
 use Rattle.dr_outside.specs.Pairs.{Frame}
-use Rattle.dr_model.specs.Expected.{ExpectedFrame}
+use Rattle.dr_meaning.specs.Expected.{ExpectedFrame}
 
 -- all visits but the last are done
 abbrev pub DoneBefore : List Visit → Type 0

@@ -5,27 +5,28 @@ use Rattle.dr_groups.specs.Groups.{IsMachineOf as IsOfGroup}
 use Rattle.dr_outside.specs.BySide.{at}
 use Rattle.dr_outside.specs.Commands.{code_of}
 use Rattle.dr_outside.specs.Pairs.{frame_of}
-use Rattle.dr_model.specs.Types.{Side, Sides, Placed, Pair, Post, Kept, PlanMachine, Stage, Record}
-use Rattle.dr_model.specs.StartUp.{is_started}
-use Rattle.dr_model.specs.Worlds.{World}
-use Rattle.dr_model.specs.Stages.{has, stage_at}
-use Rattle.dr_model.specs.Visits.{begun, all}
-use Rattle.dr_model.specs.Runs.{Setting, Run, number, op, new, stages_of, holds, is_finished, is_open, run_at, last_of_group, runs_of}
-use Rattle.dr_model.specs.Outcomes.{PostOutcome}
-use Rattle.dr_model.specs.Reach.{works}
-use Rattle.dr_model.specs.Expected.{wanted, ExpectedPost}
-use Rattle.dr_model.specs.Lawful.{LawfulAfter}
-use Rattle.dr_model.specs.Fits.{FitsPair, FitsMachine}
-use Rattle.dr_model.specs.InOrder.{is_start_up, is_ready, is_ready_at_new, keeps, IsServing, MayRun}
-use Rattle.dr_model.specs.Calls.{KeepsCodes, CallsMachines, OnlyKeepsCodes}
-use Rattle.dr_model.specs.Sound.{IsKept, IsSoundBy, IsSound}
-use Rattle.dr_model.specs.Backing.{IsRegularPlan, HasRegularPlans, Names, KeepsOrder}
-use Rattle.dr_model.proofs.Lists.{Each, each-map, each-find, all_each}
-use Rattle.dr_model.proofs.Elements.{each-contains, has-contains}
+use Rattle.dr_meaning.specs.Types.{Side, Sides, Placed, Pair, Post, Kept, PlanMachine, Record}
+use Rattle.dr_meaning.specs.declared.stage.Stage.{Stage}
+use Rattle.dr_meaning.specs.StartUp.{is_started}
+use Rattle.dr_meaning.specs.Worlds.{World}
+use Rattle.dr_meaning.specs.Stages.{has, stage_at}
+use Rattle.dr_meaning.specs.Visits.{begun, all}
+use Rattle.dr_meaning.specs.Runs.{Setting, Run, number, op, new, stages_of, holds, is_finished, is_open, run_at, last_of_group, runs_of}
+use Rattle.dr_meaning.specs.Outcomes.{PostOutcome}
+use Rattle.dr_meaning.specs.Reach.{works}
+use Rattle.dr_meaning.specs.Expected.{wanted, ExpectedPost}
+use Rattle.dr_meaning.specs.Lawful.{LawfulAfter}
+use Rattle.dr_meaning.specs.Fits.{FitsPair, FitsMachine}
+use Rattle.dr_meaning.specs.InOrder.{is_start_up, is_ready, is_ready_at_new, keeps, IsServing, MayRun}
+use Rattle.dr_meaning.specs.Calls.{KeepsCodes, CallsMachines, OnlyKeepsCodes}
+use Rattle.dr_meaning.specs.Sound.{IsKept, IsSoundBy, IsSound}
+use Rattle.dr_meaning.specs.Backing.{IsRegularPlan, HasRegularPlans, Names, KeepsOrder}
+use Rattle.dr_meaning.proofs.Lists.{Each, each-map, each-find, all_each}
+use Rattle.dr_meaning.proofs.Elements.{each-contains, has-contains, pick}
 use Rattle.dr_model.proofs.StageLaws.{stage_from-each}
 use Rattle.dr_model.proofs.TableLaws.{open_is_last}
 use Rattle.dr_model.proofs.LogLaws.{unfinished}
-use Rattle.dr_model.proofs.ChainLaws.{IsWellKept, HasPlan, pick}
+use Rattle.dr_model.proofs.ChainLaws.{IsWellKept, HasPlan}
 use Rattle.dr_model.proofs.PostPhase.{StageHolds}
 use Rattle.dr_model.proofs.FitsDrift.{drift_fits}
 use Rattle.dr_model.proofs.SoundAppend.{well_of}

@@ -4,20 +4,22 @@ use Rattle.std.proofs.Common.{refl, sym, ◌∙◌, inl, inr, subst, arith}
 use Rattle.std.proofs.lemmas.Bool.{eq-eqb}
 use Rattle.std.proofs.lemmas.List.Elements.{All-contains, filter_passes}
 use Rattle.std.proofs.lemmas.List.Kept.{IsStrictlyIncreasing-filter}
+use Rattle.dr_meaning.specs.Reach.{stage_of}
 use Rattle.dr_plan.specs.Orders.{IsAt}
 use Rattle.dr_plan.proofs.OrderLaws.{mapped_to}
-use Rattle.dr_model.specs.Types.{Op, PlanMachine, Estate, StageKind, Stage, Record}
-use Rattle.dr_model.specs.Stages.{has}
-use Rattle.dr_model.specs.Visits.{Visit, visits, mark_done, excuse, begun, is_visit_done, is_done, is_excused}
-use Rattle.dr_model.specs.Runs.{Setting, Run, number, op, stages_of, run_at, run_named, add_record, runs_of}
-use Rattle.dr_model.specs.Meaning.{same_kind, is_wave_of, is_left}
-use Rattle.dr_model.specs.Next.{least_stage, is_worked_again, least_undone}
-use Rattle.dr_model.specs.Lawful.{MayFinish, MayCome, LawfulAfter}
-use Rattle.dr_model.specs.Backing.{IsRegularPlan, HasRegularPlans}
-use Rattle.dr_model.proofs.Lists.{Each, each-find, find-passes}
-use Rattle.dr_model.proofs.Elements.{contains-has, has-contains, contains-filter}
+use Rattle.dr_meaning.specs.Types.{Op, PlanMachine, Estate, Record}
+use Rattle.dr_meaning.specs.declared.stage.StageKind.{StageKind}
+use Rattle.dr_meaning.specs.declared.stage.Stage.{Stage}
+use Rattle.dr_meaning.specs.Stages.{has}
+use Rattle.dr_meaning.specs.Visits.{Visit, visits, mark_done, excuse, begun, is_visit_done, is_done, is_excused}
+use Rattle.dr_meaning.specs.Runs.{Setting, Run, number, op, stages_of, run_at, run_named, add_record, runs_of}
+use Rattle.dr_meaning.specs.Meaning.{same_kind, is_wave_of, is_left}
+use Rattle.dr_meaning.specs.Next.{least_stage, is_worked_again, least_undone}
+use Rattle.dr_meaning.specs.Lawful.{MayFinish, MayCome, LawfulAfter}
+use Rattle.dr_meaning.specs.Backing.{IsRegularPlan, HasRegularPlans}
+use Rattle.dr_meaning.proofs.Lists.{Each, each-find, find-passes}
+use Rattle.dr_meaning.proofs.Elements.{contains-has, has-contains, contains-filter}
 use Rattle.dr_model.proofs.ReachLaws.{with_record}
-use Rattle.dr_model.proofs.WalkedLaws.{stage_of}
 use Rattle.dr_model.proofs.LogLaws.{IsGoneThrough}
 use Rattle.dr_model.proofs.ChainLaws.{HasPlan, and_left, and_right}
 use Rattle.dr_model.proofs.NumberLaws.{kind-same}

@@ -7,22 +7,23 @@ use Rattle.std.proofs.lemmas.List.Elements.{All-contains}
 use Rattle.dr_outside.specs.BySide.{at}
 use Rattle.dr_outside.specs.Pairs.{Frame, frame_of}
 use Rattle.dr_plan.specs.Orders.{IsPriority}
-use Rattle.dr_model.specs.Types.{Op, Link, Pair, Placed, Post, Callout, Step, PlanMachine, StageKind, Stage, Record}
-use Rattle.dr_model.specs.Worlds.{World}
-use Rattle.dr_model.specs.Stages.{has, step_stage, stage_at}
-use Rattle.dr_model.specs.Visits.{Visit, visits, all, last_visit, is_visit_done, is_done}
-use Rattle.dr_model.specs.Runs.{Setting, Run, number, op, new, root, migration, stages_of, holds, is_finished, is_open, run_at, last_of_group, runs_of}
-use Rattle.dr_model.specs.Reach.{ReachFrame, ReachPost}
-use Rattle.dr_model.specs.Meaning.{is_wave_of, is_left}
-use Rattle.dr_model.specs.Expected.{wanted}
-use Rattle.dr_model.specs.Lawful.{LawfulAfter, token_of, tokens_from, is_coded, is_answered}
-use Rattle.dr_model.specs.Fits.{is_recovery}
-use Rattle.dr_model.specs.InOrder.{is_ready, is_aside, is_start_up, is_ready_at_new, keeps, IsPairOfMachine, IsServing, StepTaken, StepsTaken, MayRun}
-use Rattle.dr_model.specs.Sound.{IsKept, IsSoundBy}
-use Rattle.dr_model.specs.Backing.{IsRegularPlan, HasRegularPlans, IsEarlier}
-use Rattle.dr_model.proofs.Lists.{Each, each-find, find-passes}
-use Rattle.dr_model.proofs.Elements.{each-contains, at-contains, has-contains}
-use Rattle.dr_model.proofs.WalkedLaws.{stage_of}
+use Rattle.dr_meaning.specs.Types.{Op, Link, Pair, Placed, Post, Callout, Step, PlanMachine, Record}
+use Rattle.dr_meaning.specs.declared.stage.StageKind.{StageKind}
+use Rattle.dr_meaning.specs.declared.stage.Stage.{Stage}
+use Rattle.dr_meaning.specs.Worlds.{World}
+use Rattle.dr_meaning.specs.Stages.{has, step_stage, stage_at}
+use Rattle.dr_meaning.specs.Visits.{Visit, visits, all, last_visit, is_visit_done, is_done}
+use Rattle.dr_meaning.specs.Runs.{Setting, Run, number, op, new, root, migration, stages_of, holds, is_finished, is_open, run_at, last_of_group, runs_of}
+use Rattle.dr_meaning.specs.Reach.{ReachFrame, ReachPost, stage_of}
+use Rattle.dr_meaning.specs.Meaning.{is_wave_of, is_left}
+use Rattle.dr_meaning.specs.Expected.{wanted}
+use Rattle.dr_meaning.specs.Lawful.{LawfulAfter, token_of, tokens_from, is_coded, is_answered}
+use Rattle.dr_meaning.specs.Fits.{is_recovery}
+use Rattle.dr_meaning.specs.InOrder.{is_ready, is_aside, is_start_up, is_ready_at_new, keeps, IsPairOfMachine, IsServing, StepTaken, StepsTaken, MayRun}
+use Rattle.dr_meaning.specs.Sound.{IsKept, IsSoundBy}
+use Rattle.dr_meaning.specs.Backing.{IsRegularPlan, HasRegularPlans, IsEarlier}
+use Rattle.dr_meaning.proofs.Lists.{Each, each-find, find-passes}
+use Rattle.dr_meaning.proofs.Elements.{each-contains, at-contains, has-contains}
 use Rattle.dr_model.proofs.ExpectedLaws.{filter-find}
 use Rattle.dr_model.proofs.LogLaws.{unfinished}
 use Rattle.dr_model.proofs.TableLaws.{open_is_last}

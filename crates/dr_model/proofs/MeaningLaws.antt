@@ -1,16 +1,17 @@
 -- In a lawful journal, where a Finish of a run may come: what the run may have made of an object is what it means.
 use Rattle.std.specs.Prelude.{◌≡◌, ◌↔◌, ℕ, ◌==◌, true, false, List, [], Some}
 use Rattle.std.proofs.Common.{sym, ap, ◌∙◌, subst}
-use Rattle.dr_model.specs.Types.{Side, Op, Placed, Post, StageKind, PlanMachine, Record}
+use Rattle.dr_meaning.specs.Types.{Side, Op, Placed, Post, PlanMachine, Record}
+use Rattle.dr_meaning.specs.declared.stage.StageKind.{StageKind}
 use Rattle.dr_outside.specs.Pairs.{Frame}
 use Rattle.dr_base.specs.Sides.{same_side}
-use Rattle.dr_model.specs.Stages.{stages}
-use Rattle.dr_model.specs.Runs.{Setting, Run, number, op, stages_of, run_at, runs_of}
-use Rattle.dr_model.specs.Reach.{ReachFrame, ReachPost}
-use Rattle.dr_model.specs.Meaning.{is_wave_of, is_left, MeansFrame, MeansPost}
-use Rattle.dr_model.specs.Lawful.{MayFinish, LawfulAfter}
-use Rattle.dr_model.specs.Backing.{HasRegularPlans}
-use Rattle.dr_model.proofs.Lists.{each-find}
+use Rattle.dr_meaning.specs.Stages.{stages}
+use Rattle.dr_meaning.specs.Runs.{Setting, Run, number, op, stages_of, run_at, runs_of}
+use Rattle.dr_meaning.specs.Reach.{ReachFrame, ReachPost}
+use Rattle.dr_meaning.specs.Meaning.{is_wave_of, is_left, MeansFrame, MeansPost}
+use Rattle.dr_meaning.specs.Lawful.{MayFinish, LawfulAfter}
+use Rattle.dr_meaning.specs.Backing.{HasRegularPlans}
+use Rattle.dr_meaning.proofs.Lists.{each-find}
 use Rattle.dr_model.proofs.StageLaws.{IsMachineOf}
 use Rattle.dr_model.proofs.LogLaws.{IsGoneThrough, gone-lawful}
 use Rattle.dr_model.proofs.ExcuseLaws.{ExcusesRightly, excuses-lawful}

@@ -2,15 +2,17 @@
 use Rattle.std.specs.Prelude.{◌≡◌, ℕ, ◌≤◌, ◌==◌, ◌⊎◌, Bool, true, false, not, ◌&&◌, ◌||◌, List, [], ◌∷◌, Option, Some, None, IfSome, option_map, cond, find, map}
 use Rattle.std.proofs.Common.{refl, sym, ap, ◌∙◌, inl, inr, subst}
 use Rattle.std.proofs.lemmas.Bool.{eqb-true}
-use Rattle.dr_model.specs.Types.{Op, Pair, StageKind, Stage, Record}
+use Rattle.dr_meaning.specs.Types.{Op, Pair, Record}
+use Rattle.dr_meaning.specs.declared.stage.StageKind.{StageKind}
+use Rattle.dr_meaning.specs.declared.stage.Stage.{Stage}
 use Rattle.dr_outside.specs.BySide.{at}
-use Rattle.dr_model.specs.Stages.{has, stage_at}
-use Rattle.dr_model.specs.Visits.{Visit, visits, mark_done, excuse, all}
-use Rattle.dr_model.specs.Runs.{Run, number, op, stages_of, holds, last_of_group, run_at, run_named, take_in}
-use Rattle.dr_model.specs.Meaning.{same_kind, is_of_kind}
-use Rattle.dr_model.specs.Fits.{row_of, is_recovery, is_visit_whole, is_done_whole, held, IsReplicatedTest, HoldsAll, IsSplitIn, FitsWrites, FitsNumbers, splits}
-pub use Rattle.dr_model.specs.Backing.{Shows}
-use Rattle.dr_model.proofs.Lists.{each-find}
+use Rattle.dr_meaning.specs.Stages.{has, stage_at}
+use Rattle.dr_meaning.specs.Visits.{Visit, visits, mark_done, excuse, all}
+use Rattle.dr_meaning.specs.Runs.{Run, number, op, stages_of, holds, last_of_group, run_at, run_named, take_in}
+use Rattle.dr_meaning.specs.Meaning.{same_kind, is_of_kind}
+use Rattle.dr_meaning.specs.Fits.{row_of, is_recovery, is_visit_whole, is_done_whole, held, IsReplicatedTest, HoldsAll, IsSplitIn, FitsWrites, FitsNumbers, splits}
+pub use Rattle.dr_meaning.specs.Backing.{Shows}
+use Rattle.dr_meaning.proofs.Lists.{each-find}
 use Rattle.dr_model.proofs.LogLaws.{only_run}
 use Rattle.dr_model.proofs.ReachLaws.{with_record, kind_at}
 use Rattle.dr_model.proofs.ExpectedLaws.{Falls, holds-take_in}

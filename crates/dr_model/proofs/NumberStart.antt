@@ -2,21 +2,22 @@
 use Rattle.std.specs.Prelude.{◌≡◌, ◌≢◌, ℕ, ◌<◌, ◌==◌, ◌⊎◌, Bool, true, false, ◌&&◌, List, [], ◌∷◌, Option, Some, None, IfSome, IsSomeAnd, option_map, cond, find, filter, map, slice_get}
 use Rattle.std.proofs.Common.{refl, sym, ap, ◌∙◌, subst, inl, inr, arith}
 use Rattle.std.proofs.lemmas.Bool.{eq-eqb, ne_eqb}
-use Rattle.dr_model.specs.Types.{Op, Link, Pair, StartRow, Plan, Record, GroupState, Phase}
+use Rattle.dr_meaning.proofs.Elements.{pick}
+use Rattle.dr_meaning.specs.Types.{Op, Link, Pair, StartRow, Plan, Record, GroupState, Phase}
 use Rattle.dr_base.specs.Sides.{other}
 use Rattle.dr_outside.specs.Pairs.{frame_of}
-use Rattle.dr_model.specs.Opening.{opening_frame}
-use Rattle.dr_model.specs.Stages.{has}
-use Rattle.dr_model.specs.Runs.{migration, migration_of, Setting, Run, Taken, number, op, new, root, holds, is_finished, is_open, group_state, last_of_group, run_at, take_over, as_taken, protected_side, begin_run, add_record}
-use Rattle.dr_model.specs.Lawful.{MayCome, MayStart, takes_over, is_taken_over, StartsFrom}
-use Rattle.dr_model.specs.Expected.{After, LeavesFrame, ExpectedFrame}
-use Rattle.dr_model.specs.Fits.{ReadsAtMostIn, root_start, start_or, is_recovery, was_frozen_and_replicated, HoldsAll, IsSplitBy, IsSplitIn, FitsWrites, FitsNumbers, splits}
-use Rattle.dr_model.proofs.Lists.{Each, each-find, find-passes, find-filter}
+use Rattle.dr_meaning.specs.Opening.{opening_frame}
+use Rattle.dr_meaning.specs.Stages.{has}
+use Rattle.dr_meaning.specs.Runs.{migration, migration_of, Setting, Run, Taken, number, op, new, root, holds, is_finished, is_open, group_state, last_of_group, run_at, take_over, as_taken, protected_side, begin_run, add_record}
+use Rattle.dr_meaning.specs.Lawful.{MayCome, MayStart, takes_over, is_taken_over, StartsFrom}
+use Rattle.dr_meaning.specs.Expected.{After, LeavesFrame, ExpectedFrame}
+use Rattle.dr_meaning.specs.Fits.{ReadsAtMostIn, root_start, start_or, is_recovery, was_frozen_and_replicated, HoldsAll, IsSplitBy, IsSplitIn, FitsWrites, FitsNumbers, splits}
+use Rattle.dr_meaning.proofs.Lists.{Each, each-find, find-passes, find-filter}
 use Rattle.dr_model.proofs.TableLaws.{IsTable, table_falls}
 use Rattle.dr_model.proofs.ExpectedLaws.{Falls, filter-find}
 use Rattle.dr_model.proofs.PhaseLaws.{IsChain, StartsAt, Opens, chain_frames, after_unfinished}
 use Rattle.dr_model.proofs.PostPhase.{migrate_of}
-use Rattle.dr_model.proofs.ChainLaws.{IsWellKept, HeadFree, pick, HasPlan, IsKeptFor, taken, positive, fresh_run, over_is, over_is_last, old_fresh, starts_fresh, holds-take_over, open_if, shut_if}
+use Rattle.dr_model.proofs.ChainLaws.{IsWellKept, HeadFree, HasPlan, IsKeptFor, taken, positive, fresh_run, over_is, over_is_last, old_fresh, starts_fresh, holds-take_over, open_if, shut_if}
 use Rattle.dr_model.proofs.NumberLaws.{find-map, if_some-map}
 
 -- what is found is found by its number

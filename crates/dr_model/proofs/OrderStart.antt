@@ -3,20 +3,21 @@ use Rattle.std.specs.Prelude.{◌≡◌, ◌≢◌, ℕ, ◌+◌, ◌*◌, ◌^�
 use Rattle.std.specs.List.{list_any}
 use Rattle.std.proofs.Common.{refl, sym, ap, ◌∙◌, inl, inr, subst, arith}
 use Rattle.std.proofs.lemmas.Bool.{eq-eqb, eqb-true, ne_eqb}
-use Rattle.dr_model.specs.Types.{Side, Op, Link, Pair, Post, Callout, Step, PlanMachine, Plan, StartRow, Record, GroupState, Phase}
-use Rattle.dr_model.specs.Worlds.{World}
+use Rattle.dr_meaning.proofs.Elements.{pick}
+use Rattle.dr_meaning.specs.Types.{Side, Op, Link, Pair, Post, Callout, Step, PlanMachine, Plan, StartRow, Record, GroupState, Phase}
+use Rattle.dr_meaning.specs.Worlds.{World}
 use Rattle.dr_base.specs.Sides.{other, same_side}
 use Rattle.dr_outside.specs.BySide.{at}
-use Rattle.dr_model.specs.Stages.{has}
-use Rattle.dr_model.specs.Runs.{is_open, group_state, Setting, Run, number, op, new, root, migration_of, holds, last_of_group, run_at, run_named, take_over, as_taken, add_record}
-use Rattle.dr_model.specs.Lawful.{StartsFrom, MayStart, MayCome, LawfulAfter, takes_over, is_taken_over, is_answer, was_answered, is_answered, tokens_from}
-use Rattle.dr_model.specs.StartUp.{is_started}
-use Rattle.dr_model.specs.InOrder.{IsPairOfMachine, is_ready, is_ready_at_new, is_aside, is_start_up, keeps, IsServing, StepTaken, StepsTaken, MayRun, InOrder}
-use Rattle.dr_model.proofs.Lists.{Each, each-map, each-find, find-passes, find-filter}
+use Rattle.dr_meaning.specs.Stages.{has}
+use Rattle.dr_meaning.specs.Runs.{is_open, group_state, Setting, Run, number, op, new, root, migration_of, holds, last_of_group, run_at, run_named, take_over, as_taken, add_record}
+use Rattle.dr_meaning.specs.Lawful.{StartsFrom, MayStart, MayCome, LawfulAfter, takes_over, is_taken_over, is_answer, was_answered, is_answered, tokens_from}
+use Rattle.dr_meaning.specs.StartUp.{is_started}
+use Rattle.dr_meaning.specs.InOrder.{IsPairOfMachine, is_ready, is_ready_at_new, is_aside, is_start_up, keeps, IsServing, StepTaken, StepsTaken, MayRun, InOrder}
+use Rattle.dr_meaning.proofs.Lists.{Each, each-map, each-find, find-passes, find-filter}
 use Rattle.dr_model.proofs.ReachLaws.{with_record}
 use Rattle.dr_model.proofs.TableLaws.{start_take_over}
-use Rattle.dr_model.specs.Expected.{ExpectedPost}
-use Rattle.dr_model.specs.Phases.{IsAtRest, PostAtRest}
+use Rattle.dr_meaning.specs.Expected.{ExpectedPost}
+use Rattle.dr_meaning.specs.Phases.{IsAtRest, PostAtRest}
 use Rattle.dr_model.proofs.StageLaws.{IsMachineOf}
 use Rattle.dr_model.proofs.WholeMigrate.{side_of_other}
 use Rattle.dr_model.proofs.PhaseLaws.{StartsAt}
@@ -25,7 +26,7 @@ use Rattle.dr_model.proofs.EachRun.{each-lawful}
 use Rattle.dr_model.proofs.PostPhase.{migrate_of}
 use Rattle.dr_model.proofs.NumberLaws.{find-map}
 use Rattle.dr_model.proofs.NumberStart.{same_old, at_over, took_facts}
-use Rattle.dr_model.proofs.ChainLaws.{over_none, HeadFree, pick, open_if, old_fresh, starts_fresh, group_state-filter, and_right, IsWellKept, HasPlan, fresh_run, over_groups, positive, same_number, holds-take_over, taken, over_is_last}
+use Rattle.dr_model.proofs.ChainLaws.{over_none, HeadFree, open_if, old_fresh, starts_fresh, group_state-filter, and_right, IsWellKept, HasPlan, fresh_run, over_groups, positive, same_number, holds-take_over, taken, over_is_last}
 
 -- Only a failover has Asides
 pub record HasNoAsides (r : Run) : Type 0 where

@@ -1,11 +1,12 @@
 -- Laws on what one stage leaves: a stage that is worked in several calls stays within its outcomes.
 use Rattle.std.specs.Prelude.{◌≡◌, ◌⊎◌, Bool}
 use Rattle.std.proofs.Common.{refl, ap, ◌∙◌, arith, inl, inr}
-use Rattle.dr_model.specs.Types.{Side, Sides, Placed, Post, StageKind}
+use Rattle.dr_meaning.specs.Types.{Side, Sides, Placed, Post}
+use Rattle.dr_meaning.specs.declared.stage.StageKind.{StageKind}
 use Rattle.dr_outside.specs.Pairs.{Frame}
 use Rattle.dr_outside.specs.BySide.{put}
-use Rattle.dr_model.specs.Runs.{Run}
-use Rattle.dr_model.specs.Outcomes.{IsAsWanted, IsOneOf, made_frame, FrameOutcome, stopped, made_post, start_leaves, PostOutcome}
+use Rattle.dr_meaning.specs.Runs.{Run}
+use Rattle.dr_meaning.specs.Outcomes.{IsAsWanted, IsOneOf, made_frame, FrameOutcome, stopped, made_post, start_leaves, PostOutcome}
 
 pub put_twice : (side : Side) (b : Bool) (x : Sides Bool) → put side b (put side b x) ≡ put side b x
 put_twice Side.A b x = refl

@@ -1,26 +1,26 @@
 -- What frames a group's state allows: in phase ready that of the opening state, whatever came before.
 use Rattle.std.specs.Prelude.{◌≡◌, ℕ, ◌⊎◌, Bool, true, false, ◌&&◌, List, [], ◌∷◌, None, cond}
 use Rattle.std.proofs.Common.{refl, ap, ◌∙◌, inl, inr}
-use Rattle.dr_model.specs.Types.{Side, Sides, Op, Link, StageKind, Estate, Phase, GroupState}
+use Rattle.dr_meaning.specs.Types.{Side, Sides, Op, Link, Estate, Phase, GroupState}
+use Rattle.dr_meaning.specs.declared.stage.StageKind.{StageKind}
 use Rattle.dr_outside.specs.Pairs.{Frame}
 use Rattle.dr_base.specs.Sides.{other}
 use Rattle.dr_outside.specs.BySide.{at, put, only}
-use Rattle.dr_model.specs.Opening.{opening_frame}
-use Rattle.dr_model.specs.Visits.{Visit, visits, all}
-use Rattle.dr_model.specs.Runs.{Run, op, stages_of, holds, is_finished, finish, named_side, group_state}
-use Rattle.dr_model.specs.Outcomes.{made_frame, FrameOutcome, split_frame, frozen_frame}
-use Rattle.dr_model.specs.Reach.{is_complete, FrameStep, ReachFrame}
-use Rattle.dr_model.specs.Meaning.{FrameMeaning, MeansFrame}
-use Rattle.dr_model.specs.Expected.{After, LeavesFrame}
-use Rattle.dr_model.specs.Lawful.{StartsFrom, takes_over}
-use Rattle.dr_model.specs.Phases.{IsRecovered, InPhase, AtRest, IsAtRest}
-use Rattle.dr_model.proofs.Lists.{Each, all_each}
-use Rattle.dr_model.specs.Stages.{stages}
-use Rattle.dr_model.specs.Fits.{is_recovery}
+use Rattle.dr_meaning.specs.Opening.{opening_frame}
+use Rattle.dr_meaning.specs.Visits.{Visit, visits, all}
+use Rattle.dr_meaning.specs.Runs.{Run, op, stages_of, holds, is_finished, finish, named_side, group_state}
+use Rattle.dr_meaning.specs.Outcomes.{made_frame, FrameOutcome, split_frame, frozen_frame}
+use Rattle.dr_meaning.specs.Reach.{is_complete, FrameStep, ReachFrame, stage_of}
+use Rattle.dr_meaning.specs.Meaning.{FrameMeaning, MeansFrame}
+use Rattle.dr_meaning.specs.Expected.{After, LeavesFrame}
+use Rattle.dr_meaning.specs.Lawful.{StartsFrom, takes_over}
+use Rattle.dr_meaning.specs.Phases.{IsRecovered, InPhase, AtRest, IsAtRest}
+use Rattle.dr_meaning.proofs.Lists.{Each, all_each}
+use Rattle.dr_meaning.specs.Stages.{stages}
+use Rattle.dr_meaning.specs.Fits.{is_recovery}
 use Rattle.dr_model.proofs.StageLaws.{stage_from-each, each-recovery}
 use Rattle.dr_model.proofs.WholeTest.{test_stages, start_up_frames, callout_frame, start_frame}
 use Rattle.dr_model.proofs.ThroughLaws.{Keeps, through_keeps}
-use Rattle.dr_model.proofs.WalkedLaws.{stage_of}
 use Rattle.dr_model.proofs.WholeMigrate.{at-put, stop_frame}
 
 -- the run starts where the group is at rest in the phase that it starts from, or takes over the unfinished run there

@@ -2,17 +2,19 @@
 use Rattle.std.specs.Prelude.{◌≡◌, ℕ, ◌==◌, Bool, true, false, not, ◌&&◌, List, [], ◌∷◌, Some, filter, map}
 use Rattle.std.proofs.Common.{refl, sym, ◌∙◌, subst}
 use Rattle.std.proofs.lemmas.Bool.{eqb-true}
-use Rattle.dr_model.specs.Types.{Side, Op, Placed, Post, StageKind, Stage, Record}
+use Rattle.dr_meaning.specs.Types.{Side, Op, Placed, Post, Record}
+use Rattle.dr_meaning.specs.declared.stage.StageKind.{StageKind}
+use Rattle.dr_meaning.specs.declared.stage.Stage.{Stage}
 use Rattle.dr_base.specs.Sides.{same_side}
-use Rattle.dr_model.specs.Stages.{has, stage_at}
-use Rattle.dr_model.specs.Runs.{Setting, Run, number, op, new, stages_of, holds, is_finished, is_open, group_state, last_of_group, run_at, take_in, add_record, runs_of}
-use Rattle.dr_model.specs.Outcomes.{IsAsWanted}
-use Rattle.dr_model.specs.Reach.{works}
-use Rattle.dr_model.specs.Expected.{wanted, ExpectedPost}
-use Rattle.dr_model.specs.Lawful.{MayCome, LawfulAfter}
-use Rattle.dr_model.specs.InOrder.{is_start_up}
-use Rattle.dr_model.specs.Phases.{IsAtRest, WasLeft, PostAtRest, PostUnderWay}
-use Rattle.dr_model.proofs.Lists.{Each, each-map, find-passes}
+use Rattle.dr_meaning.specs.Stages.{has, stage_at}
+use Rattle.dr_meaning.specs.Runs.{Setting, Run, number, op, new, stages_of, holds, is_finished, is_open, group_state, last_of_group, run_at, take_in, add_record, runs_of}
+use Rattle.dr_meaning.specs.Outcomes.{IsAsWanted}
+use Rattle.dr_meaning.specs.Reach.{works}
+use Rattle.dr_meaning.specs.Expected.{wanted, ExpectedPost}
+use Rattle.dr_meaning.specs.Lawful.{MayCome, LawfulAfter}
+use Rattle.dr_meaning.specs.InOrder.{is_start_up}
+use Rattle.dr_meaning.specs.Phases.{IsAtRest, WasLeft, PostAtRest, PostUnderWay}
+use Rattle.dr_meaning.proofs.Lists.{Each, each-map, find-passes}
 use Rattle.dr_model.proofs.StageLaws.{stage_from-each, each-clear_op}
 use Rattle.dr_model.proofs.ReachLaws.{kind_at}
 use Rattle.dr_model.proofs.ExpectedLaws.{each-filter, filter-find, after-take_in_elsewhere}

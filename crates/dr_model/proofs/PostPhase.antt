@@ -2,23 +2,24 @@
 use Rattle.std.specs.Prelude.{◌≡◌, ℕ, ◌⊎◌, Bool, true, false, not, ◌&&◌, List, [], ◌∷◌, IsTrue}
 use Rattle.std.specs.Bool.{MatchBool}
 use Rattle.std.proofs.Common.{refl, sym, ap, ◌∙◌, subst, inl, inr}
-use Rattle.dr_model.specs.Types.{Side, Op, Placed, Post, StageKind, Stage, Estate, Phase, GroupState}
+use Rattle.dr_meaning.specs.Types.{Side, Op, Placed, Post, Estate, Phase, GroupState}
+use Rattle.dr_meaning.specs.declared.stage.StageKind.{StageKind}
+use Rattle.dr_meaning.specs.declared.stage.Stage.{Stage}
 use Rattle.dr_base.specs.Sides.{other, same_side}
-use Rattle.dr_model.specs.Opening.{IsInService}
-use Rattle.dr_model.specs.Stages.{has, stages}
-use Rattle.dr_model.specs.Visits.{Visit, visits}
-use Rattle.dr_model.specs.Runs.{Run, op, new, stages_of, holds, is_finished, finish, named_side, group_state}
-use Rattle.dr_model.specs.Outcomes.{PostOutcome, IsAsWanted}
-use Rattle.dr_model.specs.Reach.{Through, is_complete, works, side_of_wave, PostStep, ReachPost}
-use Rattle.dr_model.specs.Meaning.{is_left, OldPostMeaning, NewPostMeaning, MeansPost}
-use Rattle.dr_model.specs.Expected.{After, LeavesPost, is_in_bubble, wanted}
-use Rattle.dr_model.specs.Lawful.{StartsFrom, takes_over}
-use Rattle.dr_model.specs.InOrder.{is_start_up}
-use Rattle.dr_model.specs.Worlds.{IsOpeningPost}
-use Rattle.dr_model.specs.Phases.{IsAtRest, WasLeft, PostInPhase, PostAtRest, PostUnderWay}
-use Rattle.dr_model.proofs.Lists.{Each, all_each}
+use Rattle.dr_meaning.specs.Opening.{IsInService}
+use Rattle.dr_meaning.specs.Stages.{has, stages}
+use Rattle.dr_meaning.specs.Visits.{Visit, visits}
+use Rattle.dr_meaning.specs.Runs.{Run, op, new, stages_of, holds, is_finished, finish, named_side, group_state}
+use Rattle.dr_meaning.specs.Outcomes.{PostOutcome, IsAsWanted}
+use Rattle.dr_meaning.specs.Reach.{Through, is_complete, works, side_of_wave, PostStep, ReachPost, stage_of}
+use Rattle.dr_meaning.specs.Meaning.{is_left, OldPostMeaning, NewPostMeaning, MeansPost}
+use Rattle.dr_meaning.specs.Expected.{After, LeavesPost, is_in_bubble, wanted}
+use Rattle.dr_meaning.specs.Lawful.{StartsFrom, takes_over}
+use Rattle.dr_meaning.specs.InOrder.{is_start_up}
+use Rattle.dr_meaning.specs.Worlds.{IsOpeningPost}
+use Rattle.dr_meaning.specs.Phases.{IsAtRest, WasLeft, PostInPhase, PostAtRest, PostUnderWay}
+use Rattle.dr_meaning.proofs.Lists.{Each, all_each}
 use Rattle.dr_model.proofs.StageLaws.{IsCallout, stage_from-each, each-start_up, each-start_up_op, each-clear_op}
-use Rattle.dr_model.proofs.WalkedLaws.{stage_of}
 use Rattle.dr_model.proofs.WholeTest.{other_side}
 use Rattle.dr_model.proofs.WholeMigrate.{side_of_other}
 use Rattle.dr_model.proofs.PhaseLaws.{IsChain, StartsAt, after_finished, after_unfinished}

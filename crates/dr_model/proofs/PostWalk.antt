@@ -1,13 +1,14 @@
 -- The laws of the walk, for the post of a machine of a group whose last run is r.
 use Rattle.std.specs.Prelude.{◌≡◌, ℕ, ◌⊎◌, true, false, List, ◌∷◌, Some, map}
 use Rattle.std.proofs.Common.{refl}
-use Rattle.dr_model.specs.Types.{Side, Post, StageKind, Estate, Record}
-use Rattle.dr_model.specs.Stages.{has, stage_at}
-use Rattle.dr_model.specs.Visits.{Visit, visits}
-use Rattle.dr_model.specs.Runs.{Run, number, stages_of, is_finished, last_of_group, take_in}
-use Rattle.dr_model.specs.Outcomes.{IsAsWanted, made_post, PostOutcome}
-use Rattle.dr_model.specs.Reach.{works, ReachPost}
-use Rattle.dr_model.specs.Expected.{LeavesPost, wanted, ExpectedPost}
+use Rattle.dr_meaning.specs.Types.{Side, Post, Estate, Record}
+use Rattle.dr_meaning.specs.declared.stage.StageKind.{StageKind}
+use Rattle.dr_meaning.specs.Stages.{has, stage_at}
+use Rattle.dr_meaning.specs.Visits.{Visit, visits}
+use Rattle.dr_meaning.specs.Runs.{Run, number, stages_of, is_finished, last_of_group, take_in}
+use Rattle.dr_meaning.specs.Outcomes.{IsAsWanted, made_post, PostOutcome}
+use Rattle.dr_meaning.specs.Reach.{works, ReachPost}
+use Rattle.dr_meaning.specs.Expected.{LeavesPost, wanted, ExpectedPost}
 use Rattle.dr_model.proofs.ReachLaws.{begun_visit, kind_at, post_begin, post_call, post_done}
 use Rattle.dr_model.proofs.ExpectedLaws.{Falls, after-take_in, after-call}
 

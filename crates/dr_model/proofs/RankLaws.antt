@@ -2,13 +2,15 @@
 use Rattle.std.specs.Prelude.{◌≡◌, ◌≢◌, ℕ, ◌+◌, ◌<◌, ◌≤◌, ◌⊎◌, Bool, true, false, List, [], ◌∷◌, ◌++◌, None, find}
 use Rattle.std.proofs.Common.{refl, sym, ap, ◌∙◌, inl, inr, arith, subst}
 use Rattle.std.proofs.lemmas.Bool.{eq-eqb, ne_eqb, cases_eq, cases_lt}
-use Rattle.dr_model.specs.Types.{Op, Plan, StageKind, Stage}
-use Rattle.dr_model.specs.Stages.{array_stage, recovery, stages, start_up, wind_down, stage_from, stage_at}
-use Rattle.dr_model.specs.Visits.{Visit, visits}
-use Rattle.dr_model.specs.Runs.{Run, stages_of}
-use Rattle.dr_model.specs.Meaning.{is_of_kind}
-use Rattle.dr_model.specs.Fits.{is_visit_whole, is_done_whole}
-use Rattle.dr_model.proofs.Lists.{Each, each-append, each-map}
+use Rattle.dr_meaning.specs.Types.{Op, Plan}
+use Rattle.dr_meaning.specs.declared.stage.StageKind.{StageKind}
+use Rattle.dr_meaning.specs.declared.stage.Stage.{Stage}
+use Rattle.dr_meaning.specs.Stages.{array_stage, recovery, stages, start_up, wind_down, stage_from, stage_at}
+use Rattle.dr_meaning.specs.Visits.{Visit, visits}
+use Rattle.dr_meaning.specs.Runs.{Run, stages_of}
+use Rattle.dr_meaning.specs.Meaning.{is_of_kind}
+use Rattle.dr_meaning.specs.Fits.{is_visit_whole, is_done_whole}
+use Rattle.dr_meaning.proofs.Lists.{Each, each-append, each-map}
 use Rattle.dr_model.proofs.StageLaws.{IsCallout, IsWave, wind_down-kind, each-start_up, stage_from-each}
 use Rattle.dr_model.proofs.NumberLaws.{kind-same}
 use Rattle.dr_model.proofs.SequenceLaws.{IsInSequence, IsAhead}

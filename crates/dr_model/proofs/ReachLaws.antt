@@ -1,13 +1,14 @@
 -- How one record or one call changes what a run may have made of an object.
 use Rattle.std.specs.Prelude.{◌≡◌, ℕ, ◌⊎◌, Bool, true, false, List, [], ◌∷◌}
 use Rattle.std.proofs.Common.{refl, sym, ◌∙◌, inl, inr}
-use Rattle.dr_model.specs.Types.{Side, Placed, Post, StageKind, Record}
+use Rattle.dr_meaning.specs.Types.{Side, Placed, Post, Record}
+use Rattle.dr_meaning.specs.declared.stage.StageKind.{StageKind}
 use Rattle.dr_outside.specs.Pairs.{Frame}
-use Rattle.dr_model.specs.Stages.{has, stage_at}
-use Rattle.dr_model.specs.Visits.{Visit, visits, excuse, all}
-use Rattle.dr_model.specs.Runs.{Run, stages_of}
-use Rattle.dr_model.specs.Outcomes.{IsAsWanted, made_frame, FrameOutcome, made_post, PostOutcome}
-use Rattle.dr_model.specs.Reach.{Through, FrameStep, ReachFrame, works, PostStep}
+use Rattle.dr_meaning.specs.Stages.{has, stage_at}
+use Rattle.dr_meaning.specs.Visits.{Visit, visits, excuse, all}
+use Rattle.dr_meaning.specs.Runs.{Run, stages_of}
+use Rattle.dr_meaning.specs.Outcomes.{IsAsWanted, made_frame, FrameOutcome, made_post, PostOutcome}
+use Rattle.dr_meaning.specs.Reach.{Through, FrameStep, ReachFrame, works, PostStep}
 use Rattle.dr_model.proofs.OutcomeLaws.{made_frame-outcome, frame_outcome_trans, made_post-outcome, post_outcome_refl, post_outcome_trans}
 
 -- a visit that is not done

@@ -3,18 +3,19 @@ use Rattle.std.specs.Prelude.{◌≡◌, ℕ, ◌<◌, ◌≤◌, ◌==◌, ◌�
 use Rattle.std.specs.List.{list_any}
 use Rattle.std.proofs.Common.{refl, sym, ap, ◌∙◌, inl, inr, arith}
 use Rattle.std.proofs.lemmas.Bool.{ne_eqb, eqb-true}
-use Rattle.dr_model.specs.Types.{Placed, Post, StageKind, Stage, Record}
-use Rattle.dr_model.specs.Stages.{has, stage_at}
-use Rattle.dr_model.specs.Visits.{Visit, visits, mark_done, excuse, open_stage, is_visit_done, is_done}
-use Rattle.dr_model.specs.Runs.{Setting, Run, op, new, stages_of, run_at, run_named, add_record}
-use Rattle.dr_model.specs.Outcomes.{PostOutcome}
-use Rattle.dr_model.specs.Reach.{works, PostStep, ReachPost}
-use Rattle.dr_model.specs.Lawful.{MaySkipIn, MayCome, LawfulAfter}
-use Rattle.dr_model.specs.InOrder.{is_start_up, is_ready, is_aside}
-use Rattle.dr_model.proofs.Lists.{Each, each-map, all_each, each-find, find-passes}
+use Rattle.dr_meaning.specs.Types.{Placed, Post, Record}
+use Rattle.dr_meaning.specs.declared.stage.StageKind.{StageKind}
+use Rattle.dr_meaning.specs.declared.stage.Stage.{Stage}
+use Rattle.dr_meaning.specs.Stages.{has, stage_at}
+use Rattle.dr_meaning.specs.Visits.{Visit, visits, mark_done, excuse, open_stage, is_visit_done, is_done}
+use Rattle.dr_meaning.specs.Runs.{Setting, Run, op, new, stages_of, run_at, run_named, add_record}
+use Rattle.dr_meaning.specs.Outcomes.{PostOutcome}
+use Rattle.dr_meaning.specs.Reach.{works, PostStep, ReachPost, stage_of}
+use Rattle.dr_meaning.specs.Lawful.{MaySkipIn, MayCome, LawfulAfter}
+use Rattle.dr_meaning.specs.InOrder.{is_start_up, is_ready, is_aside}
+use Rattle.dr_meaning.proofs.Lists.{Each, each-map, all_each, each-find, find-passes}
 use Rattle.dr_model.proofs.StageLaws.{stage_from-each, each-start_up_op}
 use Rattle.dr_model.proofs.ThroughLaws.{Holds, Makes, through_from, some_of-find}
-use Rattle.dr_model.proofs.WalkedLaws.{stage_of}
 use Rattle.dr_model.proofs.WholeTest.{same_side_itself}
 use Rattle.dr_model.proofs.WholeMigrate.{side_of_other}
 use Rattle.dr_model.proofs.ReachLaws.{with_record}

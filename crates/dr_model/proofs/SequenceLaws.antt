@@ -4,14 +4,16 @@ use Rattle.std.specs.List.{list_any}
 use Rattle.std.specs.Option.{option_or}
 use Rattle.std.proofs.Common.{refl, sym, ◌∙◌, inl, inr, arith, subst}
 use Rattle.std.proofs.lemmas.Bool.{eq-eqb, ne_eqb, cases_eq, cases_lt}
-use Rattle.dr_model.specs.Types.{StageKind, Stage, Record}
-use Rattle.dr_model.specs.Stages.{stage_from, stage_at}
-use Rattle.dr_model.specs.Visits.{Visit, visits, mark_done, excuse, begun, is_done, is_visit_done}
-use Rattle.dr_model.specs.Runs.{Setting, Run, stages_of, run_at, run_named, add_record}
-use Rattle.dr_model.specs.Meaning.{same_kind}
-use Rattle.dr_model.specs.Next.{is_attempt, least_stage, is_worked_again, least_undone}
-use Rattle.dr_model.specs.Lawful.{MayBegin, MayCome, LawfulAfter}
-use Rattle.dr_model.proofs.Lists.{Each, Some_of, each-map}
+use Rattle.dr_meaning.specs.Types.{Record}
+use Rattle.dr_meaning.specs.declared.stage.StageKind.{StageKind}
+use Rattle.dr_meaning.specs.declared.stage.Stage.{Stage}
+use Rattle.dr_meaning.specs.Stages.{stage_from, stage_at}
+use Rattle.dr_meaning.specs.Visits.{Visit, visits, mark_done, excuse, begun, is_done, is_visit_done}
+use Rattle.dr_meaning.specs.Runs.{Setting, Run, stages_of, run_at, run_named, add_record}
+use Rattle.dr_meaning.specs.Meaning.{same_kind}
+use Rattle.dr_meaning.specs.Next.{is_attempt, least_stage, is_worked_again, least_undone}
+use Rattle.dr_meaning.specs.Lawful.{MayBegin, MayCome, LawfulAfter}
+use Rattle.dr_meaning.proofs.Lists.{Each, Some_of, each-map}
 use Rattle.dr_model.proofs.ThroughLaws.{visited}
 use Rattle.dr_model.proofs.ReachLaws.{with_record, begun_visit}
 use Rattle.dr_model.proofs.LogLaws.{IsGoneThrough, head_done, gone-record}

@@ -2,19 +2,20 @@
 use Rattle.std.specs.Prelude.{◌≡◌, ◌≢◌, ℕ, ◌<◌, ◌≤◌, ◌⊎◌, ◌==◌, Bool, true, false, List, [], ◌∷◌, Option, Some, None, find}
 use Rattle.std.proofs.Common.{refl, sym, ap, ◌∙◌, inl, inr, arith, subst}
 use Rattle.std.proofs.lemmas.Bool.{cases_lt, cases_eq, eqb-true}
-use Rattle.dr_model.specs.Types.{Op, Link, StageKind, Stage}
+use Rattle.dr_meaning.specs.Types.{Op, Link}
+use Rattle.dr_meaning.specs.declared.stage.StageKind.{StageKind}
+use Rattle.dr_meaning.specs.declared.stage.Stage.{Stage}
 use Rattle.dr_outside.specs.Pairs.{Frame}
-use Rattle.dr_model.specs.Stages.{stages, wind_down, stage_at}
-use Rattle.dr_model.specs.Visits.{Visit, visits, is_visit_done, is_done}
-use Rattle.dr_model.specs.Runs.{Run, number, op, stages_of}
-use Rattle.dr_model.specs.Outcomes.{made_frame, FrameOutcome}
-use Rattle.dr_model.specs.Reach.{FrameStep, ReachFrame}
-use Rattle.dr_model.specs.Fits.{is_recovery}
-use Rattle.dr_model.proofs.Lists.{Each, each-map, all_each, each-find, find-passes, Some_of, some_of-right}
+use Rattle.dr_meaning.specs.Stages.{stages, wind_down, stage_at}
+use Rattle.dr_meaning.specs.Visits.{Visit, visits, is_visit_done, is_done}
+use Rattle.dr_meaning.specs.Runs.{Run, number, op, stages_of}
+use Rattle.dr_meaning.specs.Outcomes.{made_frame, FrameOutcome}
+use Rattle.dr_meaning.specs.Reach.{FrameStep, ReachFrame, stage_of}
+use Rattle.dr_meaning.specs.Fits.{is_recovery}
+use Rattle.dr_meaning.proofs.Lists.{Each, each-map, all_each, each-find, find-passes, Some_of, some_of-right}
 use Rattle.dr_model.proofs.StageLaws.{each-start_up, stage_from-each}
 use Rattle.dr_model.proofs.WholeTest.{callout_frame, start_frame}
 use Rattle.dr_model.proofs.ThroughLaws.{Holds, Makes, through_from, some_of-find}
-use Rattle.dr_model.proofs.WalkedLaws.{stage_of}
 use Rattle.dr_model.proofs.WholeSkips.{complete_makes}
 use Rattle.dr_model.proofs.PhaseLaws.{incomplete_step}
 use Rattle.dr_model.proofs.ExcuseLaws.{ExcusesRightly}

@@ -1,13 +1,14 @@
 -- What a pair shows once the work of a stage was done on it: this is what its Done asks for.
 use Rattle.std.specs.Prelude.{◌≡◌, ◌≢◌, ℕ, ◌≤◌, ◌⊎◌, true, false, IfSome}
 use Rattle.std.proofs.Common.{refl, sym, ap, ◌∙◌, inl, inr, subst, arith}
-use Rattle.dr_model.specs.Types.{Side, Op, Link, Pair, StageKind, StartPair}
+use Rattle.dr_meaning.specs.Types.{Side, Op, Link, Pair, StartPair}
+use Rattle.dr_meaning.specs.declared.stage.StageKind.{StageKind}
 use Rattle.dr_base.specs.Sides.{other}
 use Rattle.dr_outside.specs.BySide.{at}
 use Rattle.dr_outside.specs.Pairs.{Drift}
-use Rattle.dr_model.specs.Runs.{Run, number, op}
-use Rattle.dr_model.specs.InOrder.{is_start_up}
-use Rattle.dr_model.specs.Fits.{row_of, held, ReadsAtMost, is_recovery, is_done_whole, IsReplicating, HoldsAll, FitsWrites}
+use Rattle.dr_meaning.specs.Runs.{Run, number, op}
+use Rattle.dr_meaning.specs.InOrder.{is_start_up}
+use Rattle.dr_meaning.specs.Fits.{row_of, held, ReadsAtMost, is_recovery, is_done_whole, IsReplicating, HoldsAll, FitsWrites}
 use Rattle.dr_model.proofs.NumberLaws.{Shows}
 use Rattle.dr_model.proofs.FitsDrift.{if_some, writes_rise, held_rises, drift_holds, drift_test}
 use Rattle.dr_model.proofs.CallLaws.{synced, sync_source, sync_target, sync_whole, if_some_and}

@@ -2,19 +2,18 @@
 use Rattle.std.specs.Prelude.{◌≡◌, ℕ, Bool, true, false, List, [], ◌∷◌, None, filter}
 use Rattle.std.specs.Bool.{MatchBool}
 use Rattle.std.proofs.Common.{refl, inl, subst}
-use Rattle.dr_model.specs.Types.{Op, Phase, Estate, Record}
+use Rattle.dr_meaning.specs.Types.{Op, Phase, Estate, Record}
 use Rattle.dr_outside.specs.Pairs.{Frame}
-use Rattle.dr_model.specs.Testing.{with_snapshot}
-use Rattle.dr_model.specs.Opening.{opening_frame}
-use Rattle.dr_model.specs.Visits.{Visit, visits, all}
-use Rattle.dr_model.specs.Runs.{Setting, Run, number, op, holds, is_finished, named_side, group_state, runs_of}
-use Rattle.dr_model.specs.Outcomes.{split_frame, frozen_frame, reversed_frame, made_frame, FrameOutcome}
-use Rattle.dr_model.specs.Reach.{Through, is_complete, FrameStep, ReachFrame}
-use Rattle.dr_model.specs.Meaning.{FrameMeaning, MeansFrame}
-use Rattle.dr_model.specs.Expected.{After, LeavesFrame, ExpectedFrame}
-use Rattle.dr_model.specs.Phases.{IsAtRest}
-use Rattle.dr_model.specs.Lawful.{LawfulAfter}
-use Rattle.dr_model.proofs.WalkedLaws.{stage_of}
+use Rattle.dr_meaning.specs.Testing.{with_snapshot}
+use Rattle.dr_meaning.specs.Opening.{opening_frame}
+use Rattle.dr_meaning.specs.Visits.{Visit, visits, all}
+use Rattle.dr_meaning.specs.Runs.{Setting, Run, number, op, holds, is_finished, named_side, group_state, runs_of}
+use Rattle.dr_meaning.specs.Outcomes.{split_frame, frozen_frame, reversed_frame, made_frame, FrameOutcome}
+use Rattle.dr_meaning.specs.Reach.{Through, is_complete, FrameStep, ReachFrame, stage_of}
+use Rattle.dr_meaning.specs.Meaning.{FrameMeaning, MeansFrame}
+use Rattle.dr_meaning.specs.Expected.{After, LeavesFrame, ExpectedFrame}
+use Rattle.dr_meaning.specs.Phases.{IsAtRest}
+use Rattle.dr_meaning.specs.Lawful.{LawfulAfter}
 use Rattle.dr_model.proofs.PhaseLaws.{Opens, in_ready}
 use Rattle.dr_model.proofs.ChainLaws.{frames_by_state}
 

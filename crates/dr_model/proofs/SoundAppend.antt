@@ -1,19 +1,19 @@
 -- Journal and outside stay sound when a lawful record is appended, where the outside is as the record says.
 use Rattle.std.specs.Prelude.{◌≡◌, ℕ, true, false, List, [], ◌∷◌, ◌<◌, ◌==◌, Bool, Some, cond, map}
 use Rattle.std.proofs.Common.{refl, ◌∙◌}
-use Rattle.dr_model.specs.Types.{Record}
-use Rattle.dr_model.specs.Worlds.{World}
+use Rattle.dr_meaning.specs.Types.{Record}
+use Rattle.dr_meaning.specs.Worlds.{World}
 use Rattle.dr_outside.specs.BySide.{at}
 use Rattle.dr_outside.specs.Pairs.{frame_of}
 use Rattle.dr_groups.specs.Groups.{IsPairOf, IsMachineOf}
-use Rattle.dr_model.specs.Visits.{Visit, visits}
-use Rattle.dr_model.specs.Runs.{Setting, Run, number, holds, is_open, last_of_group, run_at, run_named, take_in, add_record, runs_of}
-use Rattle.dr_model.specs.Expected.{wanted}
-use Rattle.dr_model.specs.Lawful.{MayCome, LawfulAfter}
-use Rattle.dr_model.specs.Fits.{FitsPair, FitsMachine}
-use Rattle.dr_model.specs.Sound.{IsKept, IsSoundBy}
-use Rattle.dr_model.specs.Backing.{BacksPair, BacksPost, BacksDone}
-use Rattle.dr_model.proofs.Lists.{Each}
+use Rattle.dr_meaning.specs.Visits.{Visit, visits}
+use Rattle.dr_meaning.specs.Runs.{Setting, Run, number, holds, is_open, last_of_group, run_at, run_named, take_in, add_record, runs_of}
+use Rattle.dr_meaning.specs.Expected.{wanted}
+use Rattle.dr_meaning.specs.Lawful.{MayCome, LawfulAfter}
+use Rattle.dr_meaning.specs.Fits.{FitsPair, FitsMachine}
+use Rattle.dr_meaning.specs.Sound.{IsKept, IsSoundBy}
+use Rattle.dr_meaning.specs.Backing.{BacksPair, BacksPost, BacksDone}
+use Rattle.dr_meaning.proofs.Lists.{Each}
 use Rattle.dr_model.proofs.TableLaws.{table_falls}
 use Rattle.dr_model.proofs.LogLaws.{IsGoneThrough, gone-lawful}
 use Rattle.dr_model.proofs.ExcuseLaws.{ExcusesRightly, excuses-lawful}

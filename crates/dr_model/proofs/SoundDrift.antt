@@ -1,13 +1,13 @@
 -- A sound journal and outside stay so when pairs drift.
 use Rattle.std.specs.Prelude.{ℕ, List, option_map}
 use Rattle.std.proofs.Common.{sym, ap, ◌∙◌, inl, inr}
-use Rattle.dr_model.specs.Types.{Op, Pair, PlanMachine, Record}
-use Rattle.dr_model.specs.Worlds.{World}
+use Rattle.dr_meaning.specs.Types.{Op, Pair, PlanMachine, Record}
+use Rattle.dr_meaning.specs.Worlds.{World}
 use Rattle.dr_outside.specs.Pairs.{Drift}
-use Rattle.dr_model.specs.Runs.{Setting, Run, number, op}
-use Rattle.dr_model.specs.InOrder.{IsServing, MayRun, InOrder}
-use Rattle.dr_model.specs.Sound.{IsKept, IsSoundBy, IsSound}
-use Rattle.dr_model.proofs.Lists.{Each, each-map}
+use Rattle.dr_meaning.specs.Runs.{Setting, Run, number, op}
+use Rattle.dr_meaning.specs.InOrder.{IsServing, MayRun, InOrder}
+use Rattle.dr_meaning.specs.Sound.{IsKept, IsSoundBy, IsSound}
+use Rattle.dr_meaning.proofs.Lists.{Each, each-map}
 use Rattle.dr_model.proofs.FitsDrift.{drift_fits}
 
 abbrev pub with_pairs : World → (ℕ → Pair) → World

@@ -4,12 +4,12 @@ use Rattle.std.proofs.Common.{sym, ap, ◌∙◌, subst}
 use Rattle.dr_base.specs.Sides.{other}
 use Rattle.dr_groups.specs.Groups.{IsPairOf, IsMachineOf}
 use Rattle.dr_outside.specs.BySide.{at}
-use Rattle.dr_model.specs.Types.{Side, Pair, Estate}
-use Rattle.dr_model.specs.Opening.{IsOpeningPair}
-use Rattle.dr_model.specs.Worlds.{World, IsOpeningPost}
-use Rattle.dr_model.specs.Runs.{Setting, named_side}
-use Rattle.dr_model.specs.Fits.{IsReplicating, FitsPair}
-use Rattle.dr_model.specs.Sound.{IsSoundBy}
+use Rattle.dr_meaning.specs.Types.{Side, Pair, Estate}
+use Rattle.dr_meaning.specs.Opening.{IsOpeningPair}
+use Rattle.dr_meaning.specs.Worlds.{World, IsOpeningPost}
+use Rattle.dr_meaning.specs.Runs.{Setting, named_side}
+use Rattle.dr_meaning.specs.Fits.{IsReplicating, FitsPair}
+use Rattle.dr_meaning.specs.Sound.{IsSoundBy}
 
 replicating : (side : Side) (pair : Pair) → pair.source ≡ side → IsOpeningPair side pair → IsReplicating pair
 replicating side pair source opens = record {

@@ -2,25 +2,25 @@
 use Rattle.std.specs.Prelude.{◌≡◌, ℕ, ◌<◌, ◌==◌, Bool, true, false, ◌&&◌, List, [], ◌∷◌, Option, Some, None, cond, filter, map, slice_get}
 use Rattle.std.specs.Bool.{MatchBool}
 use Rattle.std.proofs.Common.{refl, sym, ◌∙◌, inl, inr}
-use Rattle.dr_model.specs.Types.{Side, Op, Placed, Post, StageKind, Plan, StartRow, Record}
+use Rattle.dr_meaning.specs.Types.{Side, Op, Placed, Post, Plan, StartRow, Record}
+use Rattle.dr_meaning.specs.declared.stage.StageKind.{StageKind}
 use Rattle.dr_outside.specs.Pairs.{Frame, frame_of}
-use Rattle.dr_model.specs.Worlds.{World}
+use Rattle.dr_meaning.specs.Worlds.{World}
 use Rattle.dr_outside.specs.BySide.{at}
 use Rattle.dr_base.specs.Sides.{same_side}
 use Rattle.dr_groups.specs.Groups.{IsPairOf}
-use Rattle.dr_model.specs.Stages.{has}
-use Rattle.dr_model.specs.Visits.{Visit, visits, all}
-use Rattle.dr_model.specs.Runs.{Setting, Run, number, op, holds, is_finished, take_over, protected_side, begin_run, add_record, runs_of}
-use Rattle.dr_model.specs.Outcomes.{made_frame, FrameOutcome}
-use Rattle.dr_model.specs.Reach.{is_complete, FrameStep, ReachFrame, ReachPost}
-use Rattle.dr_model.specs.Meaning.{FrameMeaning, OldPostMeaning, NewPostMeaning}
-use Rattle.dr_model.specs.Expected.{After, LeavesFrame, LeavesPost, wanted, ExpectedFrame, ExpectedPost}
-use Rattle.dr_model.specs.Lawful.{MayCome, LawfulAfter}
-use Rattle.dr_model.specs.Fits.{ReadsAtMostIn}
-use Rattle.dr_model.specs.InOrder.{InOrder}
-use Rattle.dr_model.specs.Sound.{IsKept, IsSoundBy}
-use Rattle.dr_model.proofs.Lists.{Each, all_each}
-use Rattle.dr_model.proofs.WalkedLaws.{stage_of}
+use Rattle.dr_meaning.specs.Stages.{has}
+use Rattle.dr_meaning.specs.Visits.{Visit, visits, all}
+use Rattle.dr_meaning.specs.Runs.{Setting, Run, number, op, holds, is_finished, take_over, protected_side, begin_run, add_record, runs_of}
+use Rattle.dr_meaning.specs.Outcomes.{made_frame, FrameOutcome}
+use Rattle.dr_meaning.specs.Reach.{is_complete, FrameStep, ReachFrame, ReachPost, stage_of}
+use Rattle.dr_meaning.specs.Meaning.{FrameMeaning, OldPostMeaning, NewPostMeaning}
+use Rattle.dr_meaning.specs.Expected.{After, LeavesFrame, LeavesPost, wanted, ExpectedFrame, ExpectedPost}
+use Rattle.dr_meaning.specs.Lawful.{MayCome, LawfulAfter}
+use Rattle.dr_meaning.specs.Fits.{ReadsAtMostIn}
+use Rattle.dr_meaning.specs.InOrder.{InOrder}
+use Rattle.dr_meaning.specs.Sound.{IsKept, IsSoundBy}
+use Rattle.dr_meaning.proofs.Lists.{Each, all_each}
 use Rattle.dr_model.proofs.ExpectedLaws.{filter-map, after-change}
 use Rattle.dr_model.proofs.EqualLaws.{through_map}
 use Rattle.dr_model.proofs.PhaseLaws.{Opens}

@@ -3,13 +3,15 @@ use Rattle.std.specs.Prelude.{◌≡◌, ℕ, zero, suc, ◌+◌, ◌<◌, ◌�
 use Rattle.std.specs.List.{range_with_len}
 use Rattle.std.proofs.Common.{refl, ap, inl, inr, arith}
 use Rattle.std.proofs.lemmas.Bool.{cases_eq, eq-eqb, ne_eqb}
-use Rattle.dr_model.specs.Types.{Op, Callout, Step, PlanMachine, Plan, Wave, StageKind, Stage, Record}
+use Rattle.dr_meaning.specs.Types.{Op, Callout, Step, PlanMachine, Plan, Wave, Record}
+use Rattle.dr_meaning.specs.declared.stage.StageKind.{StageKind}
+use Rattle.dr_meaning.specs.declared.stage.Stage.{Stage}
 use Rattle.dr_plan.specs.Waves.{above, machines_at, wave_of, wave_at, waves_at, waves_of, priorities}
-use Rattle.dr_model.specs.Stages.{stages, has, array_stage, recovery, step_stage, wave_stage, steps_before, start_priority, start_up, wind_down, no_stage, stage_from}
-use Rattle.dr_model.specs.Visits.{is_done}
-use Rattle.dr_model.specs.InOrder.{is_start_up}
-use Rattle.dr_model.specs.Next.{least_stage}
-use Rattle.dr_model.proofs.Lists.{some_of-flat_map, some_of-right, some_of-reverse, Each, Some_of, each-append, each-reverse, each-flat_map, each-cond, each-map}
+use Rattle.dr_meaning.specs.Stages.{stages, has, array_stage, recovery, step_stage, wave_stage, steps_before, start_priority, start_up, wind_down, no_stage, stage_from}
+use Rattle.dr_meaning.specs.Visits.{is_done}
+use Rattle.dr_meaning.specs.InOrder.{is_start_up}
+use Rattle.dr_meaning.specs.Next.{least_stage}
+use Rattle.dr_meaning.proofs.Lists.{some_of-flat_map, some_of-right, some_of-reverse, Each, Some_of, each-append, each-reverse, each-flat_map, each-cond, each-map}
 
 -- a wave of this kind
 abbrev pub IsWave : StageKind → Stage → Type 0

@@ -4,10 +4,12 @@ use Rattle.std.specs.List.{range_with_len}
 use Rattle.std.proofs.Common.{refl, sym, ◌∙◌, inl, inr, arith}
 use Rattle.std.proofs.lemmas.Bool.{eq-eqb, eqb-true, ne_eqb, cases_eq}
 use Rattle.dr_plan.specs.Waves.{machines_at, wave_of, wave_at, waves_at, depths_in}
-use Rattle.dr_model.specs.Types.{Op, Step, Plan, Wave, StageKind, Stage}
-use Rattle.dr_model.specs.Stages.{array_stage, recovery, stages, no_stage, step_stage, wave_stage, start_priority, steps_before, start_up, wind_down, stage_from}
-use Rattle.dr_model.specs.InOrder.{is_start_up}
-use Rattle.dr_model.proofs.Lists.{Each, each-append, each-map, each-flat_map, each-of-map, Some_of, some_of-right}
+use Rattle.dr_meaning.specs.Types.{Op, Step, Plan, Wave}
+use Rattle.dr_meaning.specs.declared.stage.StageKind.{StageKind}
+use Rattle.dr_meaning.specs.declared.stage.Stage.{Stage}
+use Rattle.dr_meaning.specs.Stages.{array_stage, recovery, stages, no_stage, step_stage, wave_stage, start_priority, steps_before, start_up, wind_down, stage_from}
+use Rattle.dr_meaning.specs.InOrder.{is_start_up}
+use Rattle.dr_meaning.proofs.Lists.{Each, each-append, each-map, each-flat_map, each-of-map, Some_of, some_of-right}
 use Rattle.dr_model.proofs.StageLaws.{IsCallout, IsWave, wind_down-kind, steps_before-kind, stage_from-each}
 
 abbrev pub StartsNothing : Stage → Type 0

@@ -3,24 +3,25 @@ use Rattle.std.specs.Prelude.{Contains, ◌≡◌, ℕ, ◌+◌, ◌<◌, ◌≤
 use Rattle.std.specs.List.{list_any}
 use Rattle.std.proofs.Common.{refl, inl, inr, arith, subst}
 use Rattle.std.proofs.lemmas.Bool.{cases_eq, ne_eqb}
-use Rattle.dr_model.specs.Types.{Placed, Post, StageKind, Stage, Callout, Step, PlanMachine, Record}
-use Rattle.dr_model.specs.Worlds.{World}
+use Rattle.dr_meaning.specs.Types.{Placed, Post, Callout, Step, PlanMachine, Record}
+use Rattle.dr_meaning.specs.declared.stage.StageKind.{StageKind}
+use Rattle.dr_meaning.specs.declared.stage.Stage.{Stage}
+use Rattle.dr_meaning.specs.Worlds.{World}
 use Rattle.dr_outside.specs.BySide.{at}
-use Rattle.dr_model.specs.Stages.{has, stage_at, stage_from}
-use Rattle.dr_model.specs.Visits.{Visit, visits}
-use Rattle.dr_model.specs.Runs.{Setting, Run, op, new, stages_of, holds, is_finished, last_of_group, runs_of}
-use Rattle.dr_model.specs.Reach.{works, PostStep, ReachPost}
-use Rattle.dr_model.specs.Meaning.{same_kind, is_wave_of, is_left}
-use Rattle.dr_model.specs.Expected.{wanted, ExpectedPost}
-use Rattle.dr_model.specs.Lawful.{LawfulAfter}
-use Rattle.dr_model.specs.StartUp.{is_started}
-use Rattle.dr_model.specs.InOrder.{is_ready, is_aside, keeps, is_start_up, is_ready_at_new, StepTaken, StepsTaken, MayRun, InOrder}
-use Rattle.dr_model.specs.Backing.{KeepsOrder}
-use Rattle.dr_model.proofs.Elements.{each-contains, at-contains}
-use Rattle.dr_model.proofs.Lists.{Each, each-map, each-find, find-passes, all_each, Some_of, some_of-map}
+use Rattle.dr_meaning.specs.Stages.{has, stage_at, stage_from}
+use Rattle.dr_meaning.specs.Visits.{Visit, visits}
+use Rattle.dr_meaning.specs.Runs.{Setting, Run, op, new, stages_of, holds, is_finished, last_of_group, runs_of}
+use Rattle.dr_meaning.specs.Reach.{works, PostStep, ReachPost, stage_of}
+use Rattle.dr_meaning.specs.Meaning.{same_kind, is_wave_of, is_left}
+use Rattle.dr_meaning.specs.Expected.{wanted, ExpectedPost}
+use Rattle.dr_meaning.specs.Lawful.{LawfulAfter}
+use Rattle.dr_meaning.specs.StartUp.{is_started}
+use Rattle.dr_meaning.specs.InOrder.{is_ready, is_aside, keeps, is_start_up, is_ready_at_new, StepTaken, StepsTaken, MayRun, InOrder}
+use Rattle.dr_meaning.specs.Backing.{KeepsOrder}
+use Rattle.dr_meaning.proofs.Elements.{each-contains, at-contains}
+use Rattle.dr_meaning.proofs.Lists.{Each, each-map, each-find, find-passes, all_each, Some_of, some_of-map}
 use Rattle.dr_model.proofs.StageLaws.{IsMachineOf, stage_from-each}
 use Rattle.dr_model.proofs.ThroughLaws.{Holds, Makes, through_from, some_of-find, find-some_of, visited}
-use Rattle.dr_model.proofs.WalkedLaws.{stage_of}
 use Rattle.dr_model.proofs.WholeTest.{same_side_itself}
 use Rattle.dr_model.proofs.ExpectedLaws.{filter-find}
 use Rattle.dr_model.proofs.LogLaws.{DoneBefore}

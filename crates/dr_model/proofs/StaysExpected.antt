@@ -3,16 +3,16 @@ use Rattle.std.specs.Prelude.{◌≡◌, ℕ, ◌==◌, true, false, List, [], �
 use Rattle.std.proofs.Common.{◌∙◌}
 use Rattle.dr_groups.specs.Groups.{IsMachineOf as IsOfGroup}
 use Rattle.dr_outside.specs.Pairs.{Frame}
-use Rattle.dr_model.specs.Types.{Side, Post, Record}
-use Rattle.dr_model.specs.Stages.{stage_at}
-use Rattle.dr_model.specs.Visits.{visits, begun}
-use Rattle.dr_model.specs.Runs.{Setting, Run, number, stages_of, is_finished, last_of_group, add_record, runs_of}
-use Rattle.dr_model.specs.Outcomes.{PostOutcome}
-use Rattle.dr_model.specs.Reach.{works}
-use Rattle.dr_model.specs.Expected.{wanted, ExpectedFrame, ExpectedPost}
-use Rattle.dr_model.specs.Lawful.{MayCome, LawfulAfter}
-use Rattle.dr_model.specs.Backing.{HasRegularPlans}
-use Rattle.dr_model.proofs.Lists.{each-find}
+use Rattle.dr_meaning.specs.Types.{Side, Post, Record}
+use Rattle.dr_meaning.specs.Stages.{stage_at}
+use Rattle.dr_meaning.specs.Visits.{visits, begun}
+use Rattle.dr_meaning.specs.Runs.{Setting, Run, number, stages_of, is_finished, last_of_group, add_record, runs_of}
+use Rattle.dr_meaning.specs.Outcomes.{PostOutcome}
+use Rattle.dr_meaning.specs.Reach.{works}
+use Rattle.dr_meaning.specs.Expected.{wanted, ExpectedFrame, ExpectedPost}
+use Rattle.dr_meaning.specs.Lawful.{MayCome, LawfulAfter}
+use Rattle.dr_meaning.specs.Backing.{HasRegularPlans}
+use Rattle.dr_meaning.proofs.Lists.{each-find}
 use Rattle.dr_model.proofs.ReachLaws.{begun_visit}
 use Rattle.dr_model.proofs.PostWalk.{post-call}
 use Rattle.dr_model.proofs.TableLaws.{table_falls}

@@ -3,10 +3,12 @@ use Rattle.std.specs.Prelude.{◌≡◌, ℕ, ◌+◌, ◌<◌, ◌≤◌, ◌==
 use Rattle.std.proofs.Common.{refl, sym, ap, ◌∙◌, inl, inr, arith, subst}
 use Rattle.std.proofs.lemmas.Bool.{eq-eqb, cases_eq, cases_lt}
 use Rattle.dr_plan.specs.Waves.{waves_at, priorities}
-use Rattle.dr_model.specs.Types.{Op, Callout, Step, Plan, StageKind, Stage}
-use Rattle.dr_model.specs.Stages.{stages, step_stage, start_priority, steps_before, start_up, stage_from}
-use Rattle.dr_model.specs.InOrder.{is_start_up}
-use Rattle.dr_model.proofs.Lists.{Each, each-map, Some_of, some_of-left, some_of-flat_map}
+use Rattle.dr_meaning.specs.Types.{Op, Callout, Step, Plan}
+use Rattle.dr_meaning.specs.declared.stage.StageKind.{StageKind}
+use Rattle.dr_meaning.specs.declared.stage.Stage.{Stage}
+use Rattle.dr_meaning.specs.Stages.{stages, step_stage, start_priority, steps_before, start_up, stage_from}
+use Rattle.dr_meaning.specs.InOrder.{is_start_up}
+use Rattle.dr_meaning.proofs.Lists.{Each, each-map, Some_of, some_of-left, some_of-flat_map}
 use Rattle.dr_model.proofs.StageLaws.{IsWave, priorities-has, waves-kind}
 use Rattle.dr_model.proofs.StageOrder.{StartsNothing, some_of-stages, IsSortedBy, sorted_numbers, stages_sorted}
 use Rattle.dr_model.proofs.WaveOrder.{number_with}

@@ -7,11 +7,13 @@ use Rattle.std.proofs.lemmas.Option.{slice_get_within, slice_get_read, get_or_fr
 use Rattle.dr_plan.specs.Waves.{waves_of}
 use Rattle.dr_plan.specs.Orders.{IsOrdered, IsEarlierWave, IsAt, IsWave, AreWaves}
 use Rattle.dr_plan.proofs.WaveOrder.{are_waves}
-use Rattle.dr_model.specs.Types.{PlanMachine, Plan, Wave, StageKind, Stage}
-use Rattle.dr_model.specs.Stages.{has, array_stage, wave_stage, start_up, wind_down, recovery, no_stage, stage_from, stage_at}
-use Rattle.dr_model.specs.Meaning.{is_wave_of}
-use Rattle.dr_model.proofs.Lists.{Each, each-reverse, all_each, each-map, each-of-map}
-use Rattle.dr_model.proofs.Elements.{each-contains, contains-has}
+use Rattle.dr_meaning.specs.Types.{PlanMachine, Plan, Wave}
+use Rattle.dr_meaning.specs.declared.stage.StageKind.{StageKind}
+use Rattle.dr_meaning.specs.declared.stage.Stage.{Stage}
+use Rattle.dr_meaning.specs.Stages.{has, array_stage, wave_stage, start_up, wind_down, recovery, no_stage, stage_from, stage_at}
+use Rattle.dr_meaning.specs.Meaning.{is_wave_of}
+use Rattle.dr_meaning.proofs.Lists.{Each, each-reverse, all_each, each-map, each-of-map}
+use Rattle.dr_meaning.proofs.Elements.{each-contains, contains-has}
 use Rattle.dr_model.proofs.StageLaws.{IsCallout, each-start_up}
 use Rattle.dr_model.proofs.StageOrder.{IsSortedBy, sorted-append, sorted_numbers}
 use Rattle.dr_model.proofs.WaveEntries.{one_entry}

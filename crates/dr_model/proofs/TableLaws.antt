@@ -2,11 +2,11 @@
 use Rattle.std.specs.Prelude.{◌≡◌, ◌≢◌, ℕ, suc, ◌+◌, ◌<◌, ◌==◌, ◌⊎◌, Bool, true, false, ◌&&◌, ◌||◌, not, List, [], ◌∷◌, Option, Some, None, cond, map, length, IsSomeAnd, slice_get, fold, find}
 use Rattle.std.proofs.Common.{refl, ap, inl, inr, arith}
 use Rattle.std.proofs.lemmas.Bool.{eq-eqb, ne_eqb, cases_eq}
-use Rattle.dr_model.specs.Types.{StartRow, Plan, Record}
-use Rattle.dr_model.specs.Stages.{has}
-use Rattle.dr_model.specs.Runs.{Setting, Run, number, holds, is_finish, is_finished, is_open, last_of_group, run_at, run_named, take_in, take_over, begin_run, add_record}
-use Rattle.dr_model.specs.Lawful.{MayStart, MayCome, LawfulAfter}
-use Rattle.dr_model.proofs.Lists.{Each, each-map, each-find, each-of-map}
+use Rattle.dr_meaning.specs.Types.{StartRow, Plan, Record}
+use Rattle.dr_meaning.specs.Stages.{has}
+use Rattle.dr_meaning.specs.Runs.{Setting, Run, number, holds, is_finish, is_finished, is_open, last_of_group, run_at, run_named, take_in, take_over, begin_run, add_record}
+use Rattle.dr_meaning.specs.Lawful.{MayStart, MayCome, LawfulAfter}
+use Rattle.dr_meaning.proofs.Lists.{Each, each-map, each-find, each-of-map}
 use Rattle.dr_model.proofs.ExpectedLaws.{Falls}
 
 -- q doesn't stand in the way of a run that holds these groups

@@ -2,10 +2,10 @@
 use Rattle.std.specs.Prelude.{◌≡◌, ◌≢◌, ℕ, ◌<◌, ◌==◌, ◌⊎◌, Bool, true, false, ◌&&◌, not, List, [], ◌∷◌, Option, Some, None, IsSomeAnd, option_map, cond, map, find, fold, slice_get}
 use Rattle.std.proofs.Common.{refl, sym, ap, ◌∙◌, subst, inl, inr, arith}
 use Rattle.std.proofs.lemmas.Bool.{eqb-true, eq-eqb, ne_eqb}
-use Rattle.dr_model.specs.Types.{Plan, StartRow, Record}
-use Rattle.dr_model.specs.Runs.{Setting, Run, number, is_finished, is_open, run_at, run_named, take_in, take_over, as_taken, begin_run, add_record, runs_of}
-use Rattle.dr_model.specs.Lawful.{MayStart, MayCome, LawfulAfter, takes_over, is_taken_over}
-use Rattle.dr_model.proofs.Lists.{Each, all_each, each-both, each-map, each-of-map, each-find, find-passes}
+use Rattle.dr_meaning.specs.Types.{Plan, StartRow, Record}
+use Rattle.dr_meaning.specs.Runs.{Setting, Run, number, is_finished, is_open, run_at, run_named, take_in, take_over, as_taken, begin_run, add_record, runs_of}
+use Rattle.dr_meaning.specs.Lawful.{MayStart, MayCome, LawfulAfter, takes_over, is_taken_over}
+use Rattle.dr_meaning.proofs.Lists.{Each, all_each, each-both, each-map, each-of-map, each-find, find-passes}
 use Rattle.dr_model.proofs.TableLaws.{IsTable, table_falls, table-add_record, start_take_in, start_take_over}
 use Rattle.dr_model.proofs.LogLaws.{only_run}
 use Rattle.dr_model.proofs.ExpectedLaws.{take_in_other}

@@ -2,9 +2,9 @@
 use Rattle.std.specs.Prelude.{◌≡◌, ℕ, ◌==◌, ◌⊎◌, Bool, true, false, List, [], ◌∷◌, Some, find}
 use Rattle.std.proofs.Common.{refl, sym, ap, ◌∙◌, inl, inr, subst}
 use Rattle.std.proofs.lemmas.Bool.{eqb-true}
-use Rattle.dr_model.specs.Visits.{Visit, is_visit_done}
-use Rattle.dr_model.specs.Reach.{Through}
-use Rattle.dr_model.proofs.Lists.{Each, Some_of}
+use Rattle.dr_meaning.specs.Visits.{Visit, is_visit_done}
+use Rattle.dr_meaning.specs.Reach.{Through}
+use Rattle.dr_meaning.proofs.Lists.{Each, Some_of}
 
 module _ {X A : Type 0} (Step : Visit → X → X → Type 0) (f : X → A) where
   -- the visit leaves f as it was; makes it a

@@ -3,8 +3,8 @@ use Rattle.std.specs.Prelude.{◌≡◌, ℕ, ◌==◌, Bool, true, false, List,
 use Rattle.std.proofs.Common.{refl, arith}
 use Rattle.std.proofs.lemmas.Bool.Decides.{nat_tests}
 use Rattle.dr_outside.specs.Commands.{code_of, HasTokensOnce, RunsOnce}
-use Rattle.dr_model.specs.Types.{Side, Kept}
-use Rattle.dr_model.specs.Calls.{KeepsCodes}
+use Rattle.dr_meaning.specs.Types.{Side, Kept}
+use Rattle.dr_meaning.specs.Calls.{KeepsCodes}
 
 -- a code that is found in a list is found where more is behind it
 kept_behind : (old : List Kept) (kept : Kept) (token code : ℕ) → code_of old token ≡ Some code → code_of (old ++ kept ∷ []) token ≡ Some code

@@ -2,15 +2,16 @@
 use Rattle.std.specs.Prelude.{◌≡◌, ◌≢◌, ℕ, ◌<◌, ◌==◌, ◌⊎◌, Bool, true, false, ◌&&◌, List, [], ◌∷◌, Option, Some, None, IsSomeAnd, option_map, cond, map, filter, find, fold, slice_get}
 use Rattle.std.proofs.Common.{refl, sym, ap, ◌∙◌, subst, inl, inr, arith}
 use Rattle.std.proofs.lemmas.Bool.{eqb-true}
-use Rattle.dr_model.specs.Types.{Plan, StartRow, Record}
-use Rattle.dr_model.specs.Stages.{has}
-use Rattle.dr_model.specs.Runs.{Setting, Run, number, holds, is_finished, is_open, last_of_group, run_at, run_named, take_in, take_over, as_taken, begin_run, add_record}
-use Rattle.dr_model.specs.Lawful.{MayStart, MayCome, LawfulAfter, is_taken_over}
-use Rattle.dr_model.proofs.Lists.{Each, each-map, each-find, find-passes, map-same, find-filter}
+use Rattle.dr_meaning.proofs.Elements.{pick}
+use Rattle.dr_meaning.specs.Types.{Plan, StartRow, Record}
+use Rattle.dr_meaning.specs.Stages.{has}
+use Rattle.dr_meaning.specs.Runs.{Setting, Run, number, holds, is_finished, is_open, last_of_group, run_at, run_named, take_in, take_over, as_taken, begin_run, add_record}
+use Rattle.dr_meaning.specs.Lawful.{MayStart, MayCome, LawfulAfter, is_taken_over}
+use Rattle.dr_meaning.proofs.Lists.{Each, each-map, each-find, find-passes, map-same, find-filter}
 use Rattle.dr_model.proofs.LogLaws.{only_run}
 use Rattle.dr_model.proofs.ExpectedLaws.{Falls, filter-map, filter-find, falls-filter, filter-take_in, take_in_own, take_in_other, holds-take_in}
 use Rattle.dr_model.proofs.TableLaws.{IsTable, table_falls, open_is_last_of}
-use Rattle.dr_model.proofs.ChainLaws.{IsWellKept, HeadFree, fresh_run, kept-add_record, open_run, taken, over_is_last, open_if, pick, positive, holds-take_over, finished_take_over}
+use Rattle.dr_model.proofs.ChainLaws.{IsWellKept, HeadFree, fresh_run, kept-add_record, open_run, taken, over_is_last, open_if, positive, holds-take_over, finished_take_over}
 use Rattle.dr_model.proofs.NumberStart.{at_over}
 use Rattle.dr_model.proofs.OrderStart.{any_pair}
 use Rattle.dr_model.proofs.PostLaws.{empty_kept}

@@ -2,12 +2,13 @@
 use Rattle.std.specs.Prelude.{◌≡◌, ℕ, ◌+◌, ◌<◌, ◌≤◌, ◌==◌, ◌⊎◌, Bool, true, false, not, List, [], ◌∷◌, Some, None, IsTrue, length}
 use Rattle.std.proofs.Common.{refl, sym, ◌∙◌, arith, subst, inl, inr}
 use Rattle.std.proofs.lemmas.Bool.{cases_eq}
-use Rattle.dr_model.specs.Types.{Stage, Record}
-use Rattle.dr_model.specs.Visits.{is_done}
-use Rattle.dr_model.specs.Runs.{Setting, Run, stages_of, is_open, is_finished, run_at, run_named, runs_of}
-use Rattle.dr_model.specs.Next.{least_stage, HasWalked}
-use Rattle.dr_model.specs.Lawful.{MayFinish, MayCome, LawfulAfter}
-use Rattle.dr_model.proofs.Lists.{each-find}
+use Rattle.dr_meaning.specs.Types.{Record}
+use Rattle.dr_meaning.specs.declared.stage.Stage.{Stage}
+use Rattle.dr_meaning.specs.Visits.{is_done}
+use Rattle.dr_meaning.specs.Runs.{Setting, Run, stages_of, is_open, is_finished, run_at, run_named, runs_of}
+use Rattle.dr_meaning.specs.Next.{least_stage, HasWalked}
+use Rattle.dr_meaning.specs.Lawful.{MayFinish, MayCome, LawfulAfter}
+use Rattle.dr_meaning.proofs.Lists.{each-find}
 use Rattle.dr_model.proofs.ReachLaws.{with_record}
 use Rattle.dr_model.proofs.LogLaws.{IsGoneThrough, head_done, gone-record, gone-lawful, unfinished}
 use Rattle.dr_model.proofs.JournalLaws.{GoesOn, still_going}

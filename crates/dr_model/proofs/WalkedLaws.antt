@@ -1,15 +1,16 @@
 -- A run whose stages are all done, with nothing skipped or set aside: what all its stages keep, and what one of them sets.
 use Rattle.std.specs.Prelude.{◌≡◌, ℕ, ◌⊎◌, Bool, true, false, [], None, cond}
 use Rattle.std.proofs.Common.{refl, ap, ◌∙◌, inl}
-use Rattle.dr_model.specs.Types.{Side, Placed, Post, Stage}
+use Rattle.dr_meaning.specs.Types.{Side, Placed, Post}
+use Rattle.dr_meaning.specs.declared.stage.Stage.{Stage}
 use Rattle.dr_outside.specs.Pairs.{Frame}
-use Rattle.dr_model.specs.Stages.{no_stage, stage_at}
-use Rattle.dr_model.specs.Visits.{Visit, visits}
-use Rattle.dr_model.specs.Runs.{Run, stages_of}
-use Rattle.dr_model.specs.Outcomes.{made_frame, made_post}
-use Rattle.dr_model.specs.Reach.{Through, FrameStep, ReachFrame, works, PostStep, ReachPost}
-use Rattle.dr_model.specs.Next.{least_undone}
-use Rattle.dr_model.proofs.Lists.{Each, Some_of, each-map, some_of-map, some_of-both}
+use Rattle.dr_meaning.specs.Stages.{no_stage, stage_at}
+use Rattle.dr_meaning.specs.Visits.{Visit, visits}
+use Rattle.dr_meaning.specs.Runs.{Run, stages_of}
+use Rattle.dr_meaning.specs.Outcomes.{made_frame, made_post}
+use Rattle.dr_meaning.specs.Reach.{Through, FrameStep, ReachFrame, works, PostStep, ReachPost, stage_of}
+use Rattle.dr_meaning.specs.Next.{least_undone}
+use Rattle.dr_meaning.proofs.Lists.{Each, Some_of, each-map, some_of-map, some_of-both}
 use Rattle.dr_model.proofs.StageLaws.{stage_from-each, done_number}
 use Rattle.dr_model.proofs.ThroughLaws.{Keeps, KeepsOrSets, Sets, through_keeps, through_sets, visited}
 
@@ -21,9 +22,6 @@ pub record IsWhole (v : Visit) : Type 0 where
 pub record IsWalked (run : Run) : Type 0 where
   pub all_done : least_undone run ≡ None
   pub whole : Each IsWhole (visits run.log)
-
-abbrev pub stage_of : Run → Visit → Stage
-stage_of run v = stage_at (stages_of run) v.stage
 
 module _ {X A : Type 0} (run : Run) (made : Stage → X → X) (Step : Visit → X → X → Type 0) (whole : (v : Visit) → IsWhole v → (x y : X) → Step v x y → y ≡ made (stage_of run v) x) (quiet : (x : X) → made no_stage x ≡ x) (f : X → A) where
   abbrev pub StageKeeps : Stage → Type 0

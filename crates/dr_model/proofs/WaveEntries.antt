@@ -8,11 +8,13 @@ use Rattle.dr_plan.specs.Waves.{machines_at, wave_of, wave_at, waves_at, depths_
 use Rattle.dr_plan.specs.Orders.{IsAt}
 use Rattle.dr_plan.proofs.OrderLaws.{mapped_from, mapped_to}
 use Rattle.dr_plan.proofs.FaultLaws.{later, tail_up}
-use Rattle.dr_model.specs.Types.{Op, PlanMachine, Plan, StageKind, Stage}
-use Rattle.dr_model.specs.Stages.{has, stages, wave_stage, start_priority, steps_before, start_up, stage_from}
-use Rattle.dr_model.specs.InOrder.{is_start_up}
-use Rattle.dr_model.proofs.Lists.{Each, each-append, each-map, each-flat_map, each-of-map}
-use Rattle.dr_model.proofs.Elements.{contains-has}
+use Rattle.dr_meaning.specs.Types.{Op, PlanMachine, Plan}
+use Rattle.dr_meaning.specs.declared.stage.StageKind.{StageKind}
+use Rattle.dr_meaning.specs.declared.stage.Stage.{Stage}
+use Rattle.dr_meaning.specs.Stages.{has, stages, wave_stage, start_priority, steps_before, start_up, stage_from}
+use Rattle.dr_meaning.specs.InOrder.{is_start_up}
+use Rattle.dr_meaning.proofs.Lists.{Each, each-append, each-map, each-flat_map, each-of-map}
+use Rattle.dr_meaning.proofs.Elements.{contains-has}
 use Rattle.dr_model.proofs.ChainLaws.{and_left, and_right}
 use Rattle.dr_model.proofs.StageLaws.{IsCallout, steps_before-kind, each-stages, each-clear_op, stage_from-each}
 

@@ -3,13 +3,15 @@ use Rattle.std.specs.Prelude.{◌≡◌, ℕ, zero, suc, ◌+◌, ◌<◌, ◌�
 use Rattle.std.specs.List.{range_with_len}
 use Rattle.std.proofs.Common.{refl, sym, ap, ◌∙◌, inl, inr, arith, subst}
 use Rattle.std.proofs.lemmas.Bool.{eq-eqb, ne_eqb, cases_eq, cases_lt}
-use Rattle.dr_model.specs.Types.{Op, PlanMachine, Plan, Wave, StageKind, Stage}
+use Rattle.dr_meaning.specs.Types.{Op, PlanMachine, Plan, Wave}
+use Rattle.dr_meaning.specs.declared.stage.StageKind.{StageKind}
+use Rattle.dr_meaning.specs.declared.stage.Stage.{Stage}
 use Rattle.std.proofs.lemmas.List.{map-append}
 use Rattle.dr_plan.specs.Waves.{above, machines_at, wave_of, wave_at, priorities}
-use Rattle.dr_model.specs.Stages.{has, stages, start_priority, steps_before, start_up, stage_from}
-use Rattle.dr_model.specs.InOrder.{is_start_up}
-pub use Rattle.dr_model.specs.Backing.{IsEarlier}
-use Rattle.dr_model.proofs.Lists.{Each, each-append, each-map, Some_of, some_of-right, some_of-flat_map}
+use Rattle.dr_meaning.specs.Stages.{has, stages, start_priority, steps_before, start_up, stage_from}
+use Rattle.dr_meaning.specs.InOrder.{is_start_up}
+pub use Rattle.dr_meaning.specs.Backing.{IsEarlier}
+use Rattle.dr_meaning.proofs.Lists.{Each, each-append, each-map, Some_of, some_of-right, some_of-flat_map}
 use Rattle.dr_model.proofs.StageOrder.{started, some_of-stages, IsSortedBy, sorted-append, sorted_numbers, stages_sorted}
 use Rattle.dr_model.proofs.StageLaws.{IsMachineOf, priorities-has, wave-has, range-has, depth-below}
 

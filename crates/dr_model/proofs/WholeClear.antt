@@ -1,16 +1,18 @@
 -- A cleanup and a reprotect whose stages are all done make of frames and posts what they mean.
 use Rattle.std.specs.Prelude.{◌≡◌, ℕ, ◌⊎◌, Bool, true, false, ◌&&◌, None, cond}
 use Rattle.std.proofs.Common.{refl, sym, ap, ◌∙◌, inl, inr}
-use Rattle.dr_model.specs.Types.{Side, Sides, Op, Link, Placed, Post, StageKind, Stage, PlanMachine, Plan}
+use Rattle.dr_meaning.specs.Types.{Side, Sides, Op, Link, Placed, Post, PlanMachine, Plan}
+use Rattle.dr_meaning.specs.declared.stage.StageKind.{StageKind}
+use Rattle.dr_meaning.specs.declared.stage.Stage.{Stage}
 use Rattle.dr_outside.specs.Pairs.{Frame}
 use Rattle.dr_outside.specs.BySide.{at, put}
 use Rattle.dr_base.specs.Sides.{same_side}
-use Rattle.dr_model.specs.Stages.{stages, array_stage, wind_down, has}
-use Rattle.dr_model.specs.Runs.{Run, op, new, stages_of}
-use Rattle.dr_model.specs.Outcomes.{made_frame, frozen_frame}
-use Rattle.dr_model.specs.Reach.{side_of_wave, ReachFrame, ReachPost}
-use Rattle.dr_model.specs.Meaning.{MeansFrame}
-use Rattle.dr_model.proofs.Lists.{Each, each-append, each-map, some_of-left, some_of-right, some_of-map}
+use Rattle.dr_meaning.specs.Stages.{stages, array_stage, wind_down, has}
+use Rattle.dr_meaning.specs.Runs.{Run, op, new, stages_of}
+use Rattle.dr_meaning.specs.Outcomes.{made_frame, frozen_frame}
+use Rattle.dr_meaning.specs.Reach.{side_of_wave, ReachFrame, ReachPost}
+use Rattle.dr_meaning.specs.Meaning.{MeansFrame}
+use Rattle.dr_meaning.proofs.Lists.{Each, each-append, each-map, some_of-left, some_of-right, some_of-map}
 use Rattle.dr_model.proofs.StageLaws.{IsWave, wind_down-kind, IsMachineOf, Waves, winds_down_machine}
 use Rattle.dr_model.proofs.WalkedLaws.{IsWalked, frame_keeps, frame_sets, post_made, post_keeps, post_sets}
 use Rattle.dr_model.proofs.OutcomeLaws.{put_twice}

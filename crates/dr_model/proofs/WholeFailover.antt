@@ -1,16 +1,16 @@
 -- A failover whose stages are all done leaves each machine at the new side Ready, or set aside within the outcomes of its start.
 use Rattle.std.specs.Prelude.{◌≡◌, ℕ, ◌⊎◌, Bool, true, false, List, [], ◌∷◌, Some, find}
 use Rattle.std.proofs.Common.{refl, sym, ◌∙◌, inl, inr}
-use Rattle.dr_model.specs.Types.{Placed, Post, StageKind}
-use Rattle.dr_model.specs.Stages.{has}
-use Rattle.dr_model.specs.Visits.{Visit, is_excused}
-use Rattle.dr_model.specs.Runs.{Run, new}
-use Rattle.dr_model.specs.Outcomes.{PostOutcome}
-use Rattle.dr_model.specs.Reach.{Through, is_complete, works, PostStep}
-use Rattle.dr_model.specs.Meaning.{is_wave_of}
-use Rattle.dr_model.proofs.Lists.{Each, Some_of}
+use Rattle.dr_meaning.specs.Types.{Placed, Post}
+use Rattle.dr_meaning.specs.declared.stage.StageKind.{StageKind}
+use Rattle.dr_meaning.specs.Stages.{has}
+use Rattle.dr_meaning.specs.Visits.{Visit, is_excused}
+use Rattle.dr_meaning.specs.Runs.{Run, new}
+use Rattle.dr_meaning.specs.Outcomes.{PostOutcome}
+use Rattle.dr_meaning.specs.Reach.{Through, is_complete, works, PostStep, stage_of}
+use Rattle.dr_meaning.specs.Meaning.{is_wave_of}
+use Rattle.dr_meaning.proofs.Lists.{Each, Some_of}
 use Rattle.dr_model.proofs.OutcomeLaws.{post_outcome_trans}
-use Rattle.dr_model.proofs.WalkedLaws.{stage_of}
 
 module _ (run : Run) (m : ℕ) (w : Placed) where
   abbrev Step : Visit → Post → Post → Type 0

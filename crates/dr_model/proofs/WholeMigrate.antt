@@ -1,17 +1,19 @@
 -- A migration whose stages are all done makes of frames and posts what a migration means.
 use Rattle.std.specs.Prelude.{◌≡◌, ℕ, ◌⊎◌, Bool, true, false, cond, ◌&&◌}
 use Rattle.std.proofs.Common.{refl, sym, ap, ◌∙◌, inl, inr}
-use Rattle.dr_model.specs.Types.{Side, Sides, Op, Link, Placed, Post, StageKind, Stage, PlanMachine}
+use Rattle.dr_meaning.specs.Types.{Side, Sides, Op, Link, Placed, Post, PlanMachine}
+use Rattle.dr_meaning.specs.declared.stage.StageKind.{StageKind}
+use Rattle.dr_meaning.specs.declared.stage.Stage.{Stage}
 use Rattle.dr_outside.specs.Pairs.{Frame}
 use Rattle.dr_base.specs.Sides.{other, same_side}
 use Rattle.dr_outside.specs.BySide.{at, put}
-use Rattle.dr_model.specs.Stages.{stages, recovery, array_stage, wind_down, start_up, has}
-use Rattle.dr_model.specs.Runs.{Run, op, new, stages_of}
-use Rattle.dr_model.specs.Outcomes.{made_frame, stopped, split_frame, frozen_frame}
-use Rattle.dr_model.specs.Reach.{ReachFrame, ReachPost}
-use Rattle.dr_model.specs.Meaning.{MeansFrame}
-use Rattle.dr_model.specs.StartUp.{is_started}
-use Rattle.dr_model.proofs.Lists.{Each, each-map, Some_of, some_of-left, some_of-right, some_of-map}
+use Rattle.dr_meaning.specs.Stages.{stages, recovery, array_stage, wind_down, start_up, has}
+use Rattle.dr_meaning.specs.Runs.{Run, op, new, stages_of}
+use Rattle.dr_meaning.specs.Outcomes.{made_frame, stopped, split_frame, frozen_frame}
+use Rattle.dr_meaning.specs.Reach.{ReachFrame, ReachPost}
+use Rattle.dr_meaning.specs.Meaning.{MeansFrame}
+use Rattle.dr_meaning.specs.StartUp.{is_started}
+use Rattle.dr_meaning.proofs.Lists.{Each, each-map, Some_of, some_of-left, some_of-right, some_of-map}
 use Rattle.dr_model.proofs.StageLaws.{each-recovery, IsMachineOf, Waves, Starts, starts_machine, winds_down_machine}
 use Rattle.dr_model.proofs.WalkedLaws.{IsWalked, frame_keeps, frame_sets, post_made, post_keeps, post_sets}
 use Rattle.dr_model.proofs.WholeTest.{callout_frame, start_frame, callout_post, start_old_post, start_new_post, not_worked, same_side_itself}

@@ -1,23 +1,24 @@
 -- A failover whose stages are all done, whatever was skipped or set aside, makes of frames and posts what it means.
 use Rattle.std.specs.Prelude.{◌≡◌, ℕ, ◌⊎◌, Bool, true, false, ◌&&◌, ◌||◌, List, [], ◌∷◌, None, IsTrue}
 use Rattle.std.proofs.Common.{refl, sym, ap, ◌∙◌, inl, inr, subst}
-use Rattle.dr_model.specs.Types.{Side, Sides, Op, Link, Placed, Post, StageKind, Stage, PlanMachine}
+use Rattle.dr_meaning.specs.Types.{Side, Sides, Op, Link, Placed, Post, PlanMachine}
+use Rattle.dr_meaning.specs.declared.stage.StageKind.{StageKind}
+use Rattle.dr_meaning.specs.declared.stage.Stage.{Stage}
 use Rattle.dr_outside.specs.Pairs.{Frame}
 use Rattle.dr_base.specs.Sides.{other}
 use Rattle.dr_outside.specs.BySide.{at, put}
-use Rattle.dr_model.specs.Stages.{stages, array_stage, recovery, wind_down, start_up, has, stage_at}
-use Rattle.dr_model.specs.Visits.{Visit, visits, all, is_excused}
-use Rattle.dr_model.specs.Runs.{Run, op, new, stages_of}
-use Rattle.dr_model.specs.Outcomes.{made_frame, FrameOutcome, stopped, PostOutcome, split_frame}
-use Rattle.dr_model.specs.Reach.{Through, is_complete, FrameStep, ReachFrame, works, PostStep, ReachPost}
-use Rattle.dr_model.specs.Meaning.{same_kind, is_of_kind, is_wave_of, is_stop_skipped, is_prepare_skipped, last_visit_of, FrameMeaning, MeansFrame, OldPostMeaning, NewPostMeaning}
-use Rattle.dr_model.specs.Next.{least_undone}
-use Rattle.dr_model.specs.InOrder.{is_start_up}
-use Rattle.dr_model.specs.StartUp.{is_started}
-use Rattle.dr_model.proofs.Lists.{Each, each-find, find-passes, all_each, Some_of, some_of-left, some_of-right, some_of-map, some_of-both}
+use Rattle.dr_meaning.specs.Stages.{stages, array_stage, recovery, wind_down, start_up, has, stage_at}
+use Rattle.dr_meaning.specs.Visits.{Visit, visits, all, is_excused}
+use Rattle.dr_meaning.specs.Runs.{Run, op, new, stages_of}
+use Rattle.dr_meaning.specs.Outcomes.{made_frame, FrameOutcome, stopped, PostOutcome, split_frame}
+use Rattle.dr_meaning.specs.Reach.{Through, is_complete, FrameStep, ReachFrame, works, PostStep, ReachPost, stage_of}
+use Rattle.dr_meaning.specs.Meaning.{same_kind, is_of_kind, is_wave_of, is_stop_skipped, is_prepare_skipped, last_visit_of, FrameMeaning, MeansFrame, OldPostMeaning, NewPostMeaning}
+use Rattle.dr_meaning.specs.Next.{least_undone}
+use Rattle.dr_meaning.specs.InOrder.{is_start_up}
+use Rattle.dr_meaning.specs.StartUp.{is_started}
+use Rattle.dr_meaning.proofs.Lists.{Each, each-find, find-passes, all_each, Some_of, some_of-left, some_of-right, some_of-map, some_of-both}
 use Rattle.dr_model.proofs.StageLaws.{IsCallout, stage_from-each, done_number, each-recovery, each-start_up, each-start_up_op, IsMachineOf, Waves, Starts, starts_machine, winds_down_machine}
 use Rattle.dr_model.proofs.ThroughLaws.{Holds, Makes, through_from, visited, some_of-find, find-some_of}
-use Rattle.dr_model.proofs.WalkedLaws.{stage_of}
 use Rattle.dr_model.proofs.WholeTest.{callout_frame, start_frame, other_side, same_side_itself}
 use Rattle.dr_model.proofs.WholeMigrate.{stop_frame, at-put, at-put_other, at_other-put, moved, turned-frozen, turned-opened, turned-same, stopped-stopped, is_running-stopped, stopped-same, side_of_other}
 use Rattle.dr_model.proofs.PhaseLaws.{incomplete_step, reach_keeps}

@@ -1,15 +1,17 @@
 -- A test whose stages are all done makes of frames and posts what a test means.
 use Rattle.std.specs.Prelude.{◌≡◌, ℕ, ◌⊎◌, Bool, true, false, Some, cond, ◌&&◌}
 use Rattle.std.proofs.Common.{refl, ap, ◌∙◌, inl, inr}
-use Rattle.dr_model.specs.Types.{Side, Op, Placed, Post, StageKind, Stage, PlanMachine, Plan}
+use Rattle.dr_meaning.specs.Types.{Side, Op, Placed, Post, PlanMachine, Plan}
+use Rattle.dr_meaning.specs.declared.stage.StageKind.{StageKind}
+use Rattle.dr_meaning.specs.declared.stage.Stage.{Stage}
 use Rattle.dr_outside.specs.Pairs.{Frame}
 use Rattle.dr_base.specs.Sides.{other, same_side}
-use Rattle.dr_model.specs.Stages.{stages, start_up, has}
-use Rattle.dr_model.specs.Runs.{Run, number, op, new, stages_of}
-use Rattle.dr_model.specs.Outcomes.{made_frame}
-use Rattle.dr_model.specs.Reach.{ReachFrame, ReachPost}
-use Rattle.dr_model.specs.Meaning.{MeansFrame}
-use Rattle.dr_model.proofs.Lists.{Each, some_of-map}
+use Rattle.dr_meaning.specs.Stages.{stages, start_up, has}
+use Rattle.dr_meaning.specs.Runs.{Run, number, op, new, stages_of}
+use Rattle.dr_meaning.specs.Outcomes.{made_frame}
+use Rattle.dr_meaning.specs.Reach.{ReachFrame, ReachPost}
+use Rattle.dr_meaning.specs.Meaning.{MeansFrame}
+use Rattle.dr_meaning.proofs.Lists.{Each, some_of-map}
 use Rattle.dr_model.proofs.StageLaws.{IsCallout, each-start_up, IsMachineOf, Starts, starts_machine}
 use Rattle.dr_model.proofs.WalkedLaws.{IsWalked, frame_keeps, frame_sets, post_made, post_keeps, post_sets}
 

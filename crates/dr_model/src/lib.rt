@@ -1,15 +1,7 @@
-//! What the desk's runs mean: definitions that its contracts cite, their laws, the stages of each
-//! operation, what a run needs of the journal, and the codes by which an answer tells how an object
-//! stands.
+//! The laws of what the desk's runs mean. The definitions that they speak of stand in `dr_meaning`,
+//! which also has the stages of each operation and the codes; they are handed on here.
 #![tactic(auto)]
 
-mod codes;
-mod journal_need;
 pub mod laws;
-mod stage;
-mod stage_list;
 
-pub use codes::{half_code, post_code};
-pub use journal_need::need;
-pub use stage::{Stage, StageKind};
-pub use stage_list::stages;
+pub use dr_meaning::{Stage, StageKind, half_code, need, post_code, stages};

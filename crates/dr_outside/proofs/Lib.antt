@@ -5,4 +5,3 @@ mod ExitNames
 pub mod Listed
 pub mod MachineAt
 pub mod Making
-pub mod Opening

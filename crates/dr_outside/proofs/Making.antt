@@ -6,7 +6,7 @@ use Rattle.dr_outside.specs.declared.pair.Pair.{Pair}
 use Rattle.dr_outside.specs.declared.array.ArrayCall.{ArrayCall}
 use Rattle.dr_outside.specs.Arrays.{is_listed}
 use Rattle.dr_outside.specs.Pairs.{made}
-use Rattle.dr_outside.specs.PlainArrays.{pair_at, opening_pair}
+use Rattle.dr_outside.specs.PairLists.{pair_at, no_pair}
 use Rattle.dr_outside.proofs.Listed.{is_listed_more, not_yet}
 
 -- the pairs after these are made
@@ -29,8 +29,8 @@ made_more call list was now n rises l fits so_far i =
       | inl e ↦
           let now_v : pair_at now v ≡ pair_at was v = so_far v ∙ ap (λ b. if b then made call (pair_at was v) else pair_at was v) (not_yet list rises n l) in
           let listed : is_listed (take (n + 1) list) v ≡ true = is_listed_more list n v l ∙ ap (λ b. is_listed (take n list) v || b) (eq-eqb v v refl) ∙ or_true _ in
-          rw e (get_or-set_same now v _ opening_pair fits ∙ ap (made call) now_v ∙ sym (ap (λ b. if b then made call (pair_at was v) else pair_at was v) listed))
+          rw e (get_or-set_same now v _ no_pair fits ∙ ap (made call) now_v ∙ sym (ap (λ b. if b then made call (pair_at was v) else pair_at was v) listed))
       | inr other ↦
           let same : is_listed (take (n + 1) list) i ≡ is_listed (take n list) i = is_listed_more list n i l ∙ ap (λ b. is_listed (take n list) i || b) (ne_eqb v i (λ e. other (sym e))) ∙ or_false _ in
-          get_or-set_other now v i _ opening_pair other ∙ so_far i ∙ ap (λ b. if b then made call (pair_at was i) else pair_at was i) (sym same)
+          get_or-set_other now v i _ no_pair other ∙ so_far i ∙ ap (λ b. if b then made call (pair_at was i) else pair_at was i) (sym same)
     ]

@@ -5,6 +5,7 @@ pub mod Counts
 pub mod Decimals
 pub mod ExitCodes
 pub mod Machines
+pub mod PairLists
 pub mod Pairs
 pub mod PlainArrays
 pub mod PlainPorts

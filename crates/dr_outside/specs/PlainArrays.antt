@@ -1,5 +1,5 @@
 -- An array in memory: how it opens, which of its calls fail, and what each other call does at once.
-use Rattle.std.specs.Prelude.{ℕ, ◌≡◌, Bool, ◌&&◌, ◌==◌, if◌then◌else◌, List, [], ◌∷◌, length, replicate, slice_index_or, Option, Some, None, Result, Ok, Err}
+use Rattle.std.specs.Prelude.{ℕ, ◌≡◌, Bool, ◌&&◌, ◌==◌, if◌then◌else◌, List, [], ◌∷◌, length, replicate, Option, Some, None, Result, Ok, Err}
 use Rattle.std.proofs.Common.{refl, arith}
 use Rattle.dr_base.specs.Causes.{one_more}
 use Rattle.dr_base.specs.declared.side.Side.{Side}
@@ -14,6 +14,7 @@ use Rattle.dr_outside.specs.BySide.{at, only}
 use Rattle.dr_outside.specs.Counts.{one_more_at}
 use Rattle.dr_outside.specs.Pairs.{target, made, half}
 use Rattle.dr_outside.specs.Arrays.{ArrayState, IsLeastOfClass, is_listed, has_part}
+use Rattle.dr_outside.specs.PairLists.{pair_at}
 
 -- its pairs, the calls on lists so far, the calls that are to fail and at which side, and its faults
 pub record PlainArrayState : Type 0 where
@@ -36,10 +37,6 @@ opening_pair =
 -- an array at first
 abbrev pub opening_array : ℕ → List (ℕ × Side) → PlainArrayState
 opening_array count fails = record { pairs = replicate count opening_pair; calls = 0; fails = fails; faults = record { a = 0; b = 0 } }
-
--- the pair of a number
-abbrev pub pair_at : List Pair → ℕ → Pair
-pair_at pairs i = slice_index_or pairs i opening_pair
 
 -- what it holds, as of any array: each pair is a consistency group of its own
 abbrev pub state_of : PlainArrayState → ArrayState

@@ -1,8 +1,10 @@
-ghost use Rattle.std.specs.Prelude.{◌≡◌, true};
+ghost use Rattle.std.specs.Prelude.{◌≡◌, true, IsTrue};
+ghost use Rattle.dr_base.specs.Names.{is_name};
+ghost use Rattle.dr_base.specs.Paths.{is_path};
 ghost use Rattle.dr_outside.specs.Commands.{code_of};
 ghost use Rattle.dr_outside.specs.Machines.{is_ready_for, post_after};
 
-use dr_base::{Name, Placement, Side};
+use dr_base::{Name, Path, Placement, Side};
 
 /// A placement, in a test bubble or not.
 #[derive(Clone, Copy, Debug, PartialEq, Eq)]
@@ -33,6 +35,39 @@ pub struct Kept {
     pub name: Name,
     /// The side of a machine's command; `None` for a plan's.
     pub side: Option<Side>,
+}
+
+impl Placed {
+    /// The placement whose network, folder and pool these texts spell.
+    pub fn from_texts(network: &[u8], folder: &[u8], pool: &[u8], bubble: bool) -> Placed
+        requires network { IsTrue (is_name network.now) }
+        requires folder { IsTrue (is_path folder.now) }
+        requires pool { IsTrue (is_name pool.now) }
+        ensures { result ≡ record {
+          place = record {
+            network = network.now;
+            folder = folder.now;
+            pool = pool.now;
+          };
+          bubble = bubble;
+        } }
+    {
+        let (Some(network), Some(folder), Some(pool)) = (
+            Name::read(network),
+            Path::read(folder),
+            Name::read(pool),
+        ) else {
+            unreachable!();
+        };
+        Placed {
+            place: Placement {
+                network,
+                folder,
+                pool,
+            },
+            bubble,
+        }
+    }
 }
 
 impl Post {

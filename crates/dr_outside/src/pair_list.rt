@@ -1,7 +1,7 @@
 ghost use Rattle.std.specs.Prelude.{◌≡◌, ◌↔◌, ℕ, ◌<◌, true, IsTrue, length, MatchOption, if◌then◌else◌};
 ghost use Rattle.dr_outside.specs.Pairs.{is_fit, made, half, target};
 ghost use Rattle.dr_outside.specs.Arrays.{is_listed, IsPairList, IsFirstUnfit};
-ghost use Rattle.dr_outside.specs.PlainArrays.{pair_at};
+ghost use Rattle.dr_outside.specs.PairLists.{pair_at};
 
 use crate::{ArrayCall, Half, Pair};
 

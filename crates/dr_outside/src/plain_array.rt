@@ -3,7 +3,8 @@ ghost use Rattle.dr_outside.specs.declared.array.ArrayCall.TheVariants.{Sync, Te
 ghost use Rattle.dr_outside.specs.declared.array.ArrayFail.TheVariants.{Failed};
 ghost use Rattle.dr_outside.specs.Pairs.{half};
 ghost use Rattle.dr_outside.specs.Arrays.{IsPairList, NamesListed, has_part, ArrayRead, ArrayStep, ArrayCause};
-ghost use Rattle.dr_outside.specs.PlainArrays.{PlainStep, pair_at, side_to_fail, opening_array, state_of, each_alone};
+ghost use Rattle.dr_outside.specs.PairLists.{pair_at};
+ghost use Rattle.dr_outside.specs.PlainArrays.{PlainStep, side_to_fail, opening_array, state_of, each_alone};
 
 use crate::{
     Array, ArrayCall, ArrayFail, Content, Half, Link, Pair, Sides, first_unfit, make_all,

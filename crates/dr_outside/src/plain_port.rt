@@ -9,10 +9,10 @@ ghost use Rattle.dr_outside.specs.Counts.{one_more_at};
 ghost use Rattle.dr_outside.specs.Commands.{code_of};
 ghost use Rattle.dr_outside.specs.Arrays.{is_listed};
 ghost use Rattle.dr_outside.specs.Machines.{PortStep, PortRead, PortCause, RanRead, CommandStep, NeverRan, NeverWrong};
-ghost use Rattle.dr_outside.specs.PlainPorts.{opening_placed, opening_port, state_of, Counted, is_to_fail, CallEnds, CommandEnds};
+ghost use Rattle.dr_outside.specs.PlainPorts.{opening_port, state_of, Counted, is_to_fail, CallEnds, CommandEnds};
 
 use crate::{Kept, Placed, Port, PortCall, PortFail, Post, Sides};
-use dr_base::{Name, Path, Placement, Side};
+use dr_base::{Name, Placement, Side};
 use std::marker::Model;
 
 // Whether the call of this number is to fail. If so, a fault of this side is counted.
@@ -27,27 +27,6 @@ fn fails_now(fails: &[u64], number: u64, side: Side, faults: &mut Sides<u64>) ->
         faults.raise(side);
     }
     listed
-}
-
-// Where a machine runs at first.
-fn placed_at_first() -> Placed
-    ensures { result ≡ opening_placed }
-{
-    let (Some(network), Some(folder), Some(pool)) = (
-        Name::read(b"A"),
-        Path::read(b"A"),
-        Name::read(b"A"),
-    ) else {
-        unreachable!();
-    };
-    Placed {
-        place: Placement {
-            network,
-            folder,
-            pool,
-        },
-        bubble: false,
-    }
 }
 
 /// A machine in memory. Its calls happen at once, and fail where that is listed.
@@ -80,7 +59,7 @@ impl PlainPort {
     {
         PlainPort {
             post: Sides {
-                a: Post::Ready(placed_at_first()),
+                a: Post::Ready(Placed::from_texts(b"A", b"A", b"A", false)),
                 b: Post::Placeholder,
             },
             kept: Vec::new(*fails.allocator()),

@@ -18,7 +18,7 @@ use Rattle.dr_groups.proofs.UniqueLaws.{one_ascending}
 use Rattle.dr_plan.specs.Cycles.{IsOnCycle}
 use Rattle.dr_plan.specs.Rows.{dependencies}
 use Rattle.dr_plan.specs.Faults.{unknown_groups, groups_twice, unknown_machines, bad_priorities, other_priorities, name_faults, bad_positions, IsFirstCycle, IsFirstPosition, IsFirstOfRow, IsFirstFault, IsRowValid, IsValid}
-use Rattle.dr_plan.proofs.ChainLaws.{contains-nothing, contains-one, contains-this}
+use Rattle.dr_plan.proofs.ChainLaws.{contains-one, contains-this}
 
 pub groups_right : (estate : Estate) (members : Members) (row : PlanRow) → name_faults estate members row ≡ [] → unknown_groups estate row ≡ []
 groups_right estate members row named = front_empty (unknown_groups estate row) _ named

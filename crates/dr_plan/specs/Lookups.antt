@@ -3,6 +3,9 @@ use Rattle.std.specs.Prelude.{ℕ, ℤ, ◌+◌, ◌≡◌, ◌<◌, All, IsTrue
 use Rattle.std.specs.Ordering.{nat_cmp}
 use Rattle.std.specs.Cmp.Lexicographic.{slice_cmp}
 use Rattle.std.specs.BTreeMap.{BTreeMap, get}
+use Rattle.dr_base.specs.declared.plan_fault.PlanFault.{PlanFault}
+use Rattle.dr_base.specs.declared.stop.Stop.{Stop}
+use Rattle.dr_base.specs.declared.stop.Stop.TheVariants as stop
 use Rattle.dr_inventory.specs.declared.estate.PlanMachineRow.{PlanMachineRow}
 use Rattle.dr_inventory.specs.declared.estate.StepRow.{StepRow}
 use Rattle.dr_inventory.specs.declared.estate.PlanRow.{PlanRow}
@@ -10,8 +13,6 @@ use Rattle.dr_inventory.specs.declared.estate.Estate.{Estate}
 use Rattle.dr_inventory.specs.Names.{place}
 use Rattle.dr_inventory.specs.declared.members.Members.{Members}
 use Rattle.dr_plan.specs.declared.machines.Found.{Found}
-use Rattle.dr_plan.specs.declared.stop.Stop.{Stop}
-use Rattle.dr_plan.specs.declared.stop.Stop.TheVariants as stop
 use Rattle.dr_plan.specs.Rows.{group_numbers, is_held, is_priority, dependencies}
 use Rattle.dr_plan.specs.declared.plan.Plan.{Plan}
 use Rattle.dr_plan.specs.Plans.{AreDepths, plan_of}
@@ -36,7 +37,7 @@ pub record AreMarks (lists : List (List ℕ)) (groups : List ℕ) (count : ℕ) 
   pub each : (k : ℕ) → k < count → slice_index_or marks k false ≡ is_held lists groups k
 
 -- the reading stopped for this reason: this is the first fault of the row, or memory ran out
-abbrev pub StopsBy : Estate → Members → PlanRow → Stop → Type 0
+abbrev pub StopsBy : Estate → Members → PlanRow → Stop PlanFault → Type 0
 StopsBy estate members row stop.Memory = Unit {0}
 StopsBy estate members row (stop.Fault found) = IsFirstOfRow estate members row found
 

@@ -1,37 +1,24 @@
 //! The protection groups of a plan.
 
-ghost use Rattle.std.specs.Prelude.{◌≡◌, not, is_some, find, IfOk, OnOk, IfErr};
-ghost use Rattle.std.specs.Ordering.{nat_cmp};
-ghost use Rattle.std.specs.Cmp.Lexicographic.{slice_cmp};
-ghost use Rattle.std.specs.BTreeMap.{get};
+ghost use Rattle.std.specs.Prelude.{◌≡◌, IfOk, OnOk, IfErr};
 ghost use Rattle.dr_inventory.specs.Sound.{IsSound};
 ghost use Rattle.dr_inventory.specs.declared.members.Members.{Members as AnyMembers};
 ghost use Rattle.dr_plan.specs.Rows.{group_numbers};
 ghost use Rattle.dr_plan.specs.Lookups.{StopsBy, AreGroupsRight};
 
 use crate::names::group_names;
-use crate::stop::Stop;
-use dr_base::{Name, PlanFault};
-use dr_inventory::named::{first_twice, numbers_of, places_of};
+use dr_base::{PlanFault, Stop};
+use dr_inventory::named::{first_missing, first_twice, numbers_of, places_of};
 use dr_inventory::{Estate, PlanRow};
 use std::alloc::Global;
-use std::collections::BTreeMap;
-
-// The first of these names that has no place.
-fn first_missing(places: &BTreeMap<Name, usize>, names: &[Name]) -> Option<Name>
-    ensures { result ≡ find (λ n. not (is_some (get (slice_cmp nat_cmp) places.now n))) names.now }
-{
-    for name in names {
-        if !places.contains_key(name) {
-            return Some(*name);
-        }
-    }
-    None
-}
 
 /// The numbers of the plan's groups, or the first fault among them: one that isn't declared, or else
 /// one that is named twice.
-pub fn read_groups(alloc: Global, estate: &Estate, row: &PlanRow) -> Result<Vec<u32>, Stop>
+pub fn read_groups(
+    alloc: Global,
+    estate: &Estate,
+    row: &PlanRow,
+) -> Result<Vec<u32>, Stop<PlanFault>>
     requires { IsSound estate.now }
 
     ensures numbers { IfOk result (λ numbers. numbers.items ≡ group_numbers estate.now row.now) }

@@ -12,7 +12,6 @@ mod names;
 mod plan;
 mod positions;
 mod reading;
-mod stop;
 mod walk;
 mod wave_lists;
 

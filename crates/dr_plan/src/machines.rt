@@ -13,8 +13,7 @@ ghost use Rattle.dr_plan.specs.Lookups.{IsPlaces, ArePlacesBelow, is_marked_name
 
 use crate::marks::marks_of;
 use crate::names::{machine_names, row_names};
-use crate::stop::Stop;
-use dr_base::{Name, PlanFault, Rows};
+use dr_base::{Name, PlanFault, Rows, Stop};
 use dr_inventory::named::{number_of, numbers_of, places_of};
 use dr_inventory::{Estate, Members, PlanMachineRow, PlanRow};
 use std::alloc::{AllocError, Global};
@@ -236,7 +235,7 @@ pub fn read_machines(
     members: &Members,
     row: &PlanRow,
     groups: &[u32],
-) -> Result<Found, Stop>
+) -> Result<Found, Stop<PlanFault>>
     requires sound { IsSound estate.now }
     requires members { AreMembersOf estate.now members.now }
     requires groups { groups.now ≡ group_numbers estate.now row.now }

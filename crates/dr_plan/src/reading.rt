@@ -18,9 +18,8 @@ use crate::machines::{Found, natural, read_machines, row_of};
 use crate::marks::all_held;
 use crate::plan::{Plan, PlanMachine};
 use crate::positions::{first_bad_position, steps_of};
-use crate::stop::Stop;
 use crate::wave_lists::waves_in;
-use dr_base::{Name, PlanFault, Rows};
+use dr_base::{Name, PlanFault, Rows, Stop};
 use dr_inventory::{Estate, Members, PlanMachineRow, PlanRow};
 use std::alloc::{AllocError, Global};
 use std::collections::BTreeMap;
@@ -157,7 +156,12 @@ fn plan_of(
 }
 
 // The plan of a row, or the first of all that is wrong with it.
-fn read_row(alloc: Global, estate: &Estate, members: &Members, row: &PlanRow) -> Result<Plan, Stop>
+fn read_row(
+    alloc: Global,
+    estate: &Estate,
+    members: &Members,
+    row: &PlanRow,
+) -> Result<Plan, Stop<PlanFault>>
     requires sound { IsSound estate.now }
     requires members { AreMembersOf estate.now members.now }
     requires listed { Contains estate.now.plans row.now }

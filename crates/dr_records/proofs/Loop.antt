@@ -1,8 +1,8 @@
 -- Reading entries one after the other, as a loop does.
 use Rattle.std.proofs.Common.{◌≡◌, ℕ, suc, ◌-◌, ◌+◌, ◌≤◌, ◌<◌, List, [], ◌∷◌, ◌++◌, Result, Ok, Err, refl, sym, ap, ◌∙◌, append_assoc, arith}
 use Rattle.std.proofs.lemmas.List.{append-nil}
-use Rattle.dr_records.specs.declared.reading.Stop.{Stop}
-use Rattle.dr_records.specs.declared.reading.Stop.TheVariants as stops
+use Rattle.dr_base.specs.declared.stop.Stop.{Stop}
+use Rattle.dr_base.specs.declared.stop.Stop.TheVariants as stops
 use Rattle.dr_records.specs.Reading.{◌>>=◌, StopsAs, entries_at}
 
 -- what was read before, and what is still read
@@ -21,11 +21,11 @@ goes_on one front count i bytes x after total lt h so_far =
     let step : with_front front (entries_at one (count - i) bytes) ≡ with_front (front ++ x ∷ []) (entries_at one (count - (i + 1)) after) = rw (k, h) (regroup front x (entries_at one (count - (i + 1)) after)) in
     sym step ∙ so_far
 
-pub ends : {A : Type 0} (one : List ℕ → Result (A × List ℕ) ℕ) (stop : Stop) (front : List A) (count i : ℕ) (bytes : List ℕ) (total : Result (List A × List ℕ) ℕ) → i < count → StopsAs stop (one bytes)
+pub ends : {A : Type 0} (one : List ℕ → Result (A × List ℕ) ℕ) (stop : Stop ℕ) (front : List A) (count i : ℕ) (bytes : List ℕ) (total : Result (List A × List ℕ) ℕ) → i < count → StopsAs stop (one bytes)
     → with_front front (entries_at one (count - i) bytes) ≡ total → StopsAs stop total
 unfolding entries_at
-ends one stops.NoMemory front count i bytes total lt h so_far = tt
-ends one (stops.Stuck left) front count i bytes total lt h so_far =
+ends one stops.Memory front count i bytes total lt h so_far = tt
+ends one (stops.Fault left) front count i bytes total lt h so_far =
     let k : count - i ≡ suc (count - (i + 1)) = omega arith in
     let step : with_front front (entries_at one (count - i) bytes) ≡ Err left = rw (k, h) refl in
     sym so_far ∙ step

@@ -1,5 +1,5 @@
 -- The readers of the kinds of records are exact.
-use Rattle.std.proofs.Common.{◌≡◌, ℕ, ◌^◌, Bool, List, ◌∷◌, ◌++◌, refl, sym, subst, arith}
+use Rattle.std.proofs.Common.{◌≡◌, ℕ, ◌<◌, ◌^◌, Bool, List, ◌∷◌, ◌++◌, Result, refl, sym, ap, subst, ◌∙◌, arith}
 use Rattle.std.specs.Int.{w32, w64}
 use Rattle.dr_base.specs.declared.command.Op.{Op}
 use Rattle.dr_records.specs.declared.records.Record.{Record}
@@ -7,8 +7,8 @@ use Rattle.dr_records.specs.declared.records.Record.TheVariants as kinds
 use Rattle.dr_records.specs.declared.records.StartRow.{StartRow}
 use Rattle.dr_records.specs.declared.records.StartPair.{StartPair}
 use Rattle.dr_records.specs.Spelling.{four_bytes, eight_bytes, name_text, pair_text, list_text, spelling, IsNumber, IsPair, IsList, IsRecord}
-use Rattle.dr_records.specs.Reading.{number_at, list_at, pair_at, start_at, attempt_at, begin_at, done_at, skip_at, aside_at, answer_at, code_at, finish_at}
-use Rattle.dr_records.proofs.Formats.{Reads, Then, Made, then, makes, alike}
+use Rattle.dr_records.specs.Reading.{◌>>=◌, number_at, list_at, pair_at, start_at, attempt_at, begin_at, done_at, skip_at, aside_at, answer_at, code_at, finish_at}
+use Rattle.dr_records.proofs.Formats.{Reads, Then, Made, then, remade, makes, alike}
 use Rattle.dr_records.proofs.Fields.{Spelled, Number, ByteIn, one_byte, byte_reads, Anything, flag_text, flag_reads, op_text, op_reads}
 use Rattle.dr_records.proofs.Names.{IsName, name_reads}
 use Rattle.dr_records.proofs.Entries.{number32, number64, list_reads, pair_reads}
@@ -20,6 +20,10 @@ pub record IsKind (kind : ℕ) (c : Record) (text : List ℕ) : Type 0 where
 
 behind : (a b : ℕ) (x y : List ℕ) → a ∷ x ≡ b ∷ y → y ≡ x
 behind a b x y e = cc
+
+-- a number of eight bytes
+abbrev IsLong : ℕ → Type 0
+IsLong n = n < 2 ^ 64
 
 numbers_reads : Reads (Spelled (IsList IsNumber) (list_text four_bytes)) (list_at (number_at w32))
 numbers_reads = list_reads IsNumber four_bytes (number_at w32) number32
@@ -115,185 +119,141 @@ unfolding start_at
 start_kind = alike StartParts (IsKind 2) start_at start_to start_from
     (then number32 (λ run _ _. then op_reads (λ op _ _. then flag_reads (λ forced _ _. then number32 (λ plan _ _. then number32 (λ over _ _. then number64 (λ moment _ _. then name_reads (λ id _ _. then numbers_reads (λ groups _ _. makes (λ pairs. kinds.Start (row_of run op forced plan over moment id groups pairs)) pairs_reads)))))))))
 
--- ---- Attempt
+-- ---- kinds of two fields, and of three
 
-abbrev AttemptParts : Record → List ℕ → Type 0
-AttemptParts = Then (Number w32 (2 ^ 32)) (λ run. Made (Number w64 (2 ^ 64)) (λ moment. kinds.Attempt run moment))
+-- a record of two fields that are good
+record OfTwo {A B : Type 0} (GoodA : A → Type 0) (GoodB : B → Type 0) (make : A → B → Record) (c : Record) : Type 0 where
+  x : A
+  y : B
+  good_x : GoodA x
+  good_y : GoodB y
+  made : c ≡ make x y
 
-attempt_to : (c : Record) (text : List ℕ) → AttemptParts c text → IsKind 3 c text
-attempt_to c text t =
+-- a record of three fields that are good
+record OfThree {A B C : Type 0} (GoodA : A → Type 0) (GoodB : B → Type 0) (GoodC : C → Type 0) (make : A → B → C → Record) (c : Record) : Type 0 where
+  x : A
+  y : B
+  z : C
+  good_x : GoodA x
+  good_y : GoodB y
+  good_z : GoodC z
+  made : c ≡ make x y z
+
+-- what stands behind the kind of a record that is made so
+text_of : (kind : ℕ) (c made : Record) (text own : List ℕ) → IsKind kind c text → c ≡ made → spelling made ≡ kind ∷ own → text ≡ own
+text_of kind c made text own k same is = behind kind kind own text (sym is ∙ ap spelling (sym same) ∙ k.is)
+
+-- a kind of two fields is read as its fields are
+two_fields : {A B : Type 0} {GoodA : A → Type 0} {GoodB : B → Type 0} {a : A → List ℕ} {b : B → List ℕ} {one : List ℕ → Result (A × List ℕ) ℕ} {other : List ℕ → Result (B × List ℕ) ℕ} (kind : ℕ) (make : A → B → Record)
+    → Reads (Spelled GoodA a) one → Reads (Spelled GoodB b) other
+    → ((x : A) (y : B) → GoodA x → GoodB y → IsKind kind (make x y) (a x ++ b y))
+    → ((c : Record) (text : List ℕ) → IsKind kind c text → OfTwo GoodA GoodB make c)
+    → Reads (IsKind kind) (λ bytes. one bytes >>= λ p. (other p.1 >>= λ q. remade (make p.0) q))
+two_fields {A} {B} {GoodA} {GoodB} {a} {b} {one} {other} kind make reads_a reads_b is of =
+    let Parts : Record → List ℕ → Type 0 = Then (Spelled GoodA a) (λ x. Made (Spelled GoodB b) (make x)) in
+    let to : (c : Record) (text : List ℕ) → Parts c text → IsKind kind c text = λ c text t.
     let u = t.is_rest in
-    subst (λ (r : Record). IsKind 3 r text) (sym u.made) (record { good = (t.is_first.good, u.is_from.good); is = rw (t.parts, t.is_first.is, u.is_from.is) refl })
+    subst (λ (r : Record). IsKind kind r text) (sym u.made) (rw (t.parts, t.is_first.is, u.is_from.is) (is t.first u.from t.is_first.good u.is_from.good)) in
+    let from : (c : Record) (text : List ℕ) → IsKind kind c text → Parts c text = λ c text k.
+    let f = of c text k in
+    record {
+      first = f.x;
+      head = a f.x;
+      tail = b f.y;
+      is_first = record { good = f.good_x; is = refl };
+      is_rest = record { from = f.y; is_from = record { good = f.good_y; is = refl }; made = f.made };
+      parts = text_of kind c (make f.x f.y) text (a f.x ++ b f.y) k f.made (is f.x f.y f.good_x f.good_y).is;
+    } in
+    alike Parts (IsKind kind) (λ bytes. one bytes >>= λ p. (other p.1 >>= λ q. remade (make p.0) q)) to from
+    (then reads_a (λ x t s. makes (make x) reads_b))
 
-attempt_from : (c : Record) (text : List ℕ) → IsKind 3 c text → AttemptParts c text
-attempt_from (kinds.Attempt run moment) text k = record {
-  first = run;
-  head = four_bytes run;
-  tail = eight_bytes moment;
-  is_first = record { good = k.good.0; is = refl };
-  is_rest = record { from = moment; is_from = record { good = k.good.1; is = refl }; made = refl };
-  parts = behind _ _ _ _ k.is;
-}
-attempt_from c text k = absurd (cc (k.is))
+-- a kind of three fields is read as its fields are
+three_fields : {A B C : Type 0} {GoodA : A → Type 0} {GoodB : B → Type 0} {GoodC : C → Type 0} {a : A → List ℕ} {b : B → List ℕ} {d : C → List ℕ} {one : List ℕ → Result (A × List ℕ) ℕ} {other : List ℕ → Result (B × List ℕ) ℕ} {last : List ℕ → Result (C × List ℕ) ℕ} (kind : ℕ) (make : A → B → C → Record)
+    → Reads (Spelled GoodA a) one → Reads (Spelled GoodB b) other → Reads (Spelled GoodC d) last
+    → ((x : A) (y : B) (z : C) → GoodA x → GoodB y → GoodC z → IsKind kind (make x y z) (a x ++ (b y ++ d z)))
+    → ((c : Record) (text : List ℕ) → IsKind kind c text → OfThree GoodA GoodB GoodC make c)
+    → Reads (IsKind kind) (λ bytes. one bytes >>= λ p. (other p.1 >>= λ q. (last q.1 >>= λ r. remade (make p.0 q.0) r)))
+three_fields {A} {B} {C} {GoodA} {GoodB} {GoodC} {a} {b} {d} {one} {other} {last} kind make reads_a reads_b reads_c is of =
+    let Parts : Record → List ℕ → Type 0 = Then (Spelled GoodA a) (λ x. Then (Spelled GoodB b) (λ y. Made (Spelled GoodC d) (make x y))) in
+    let to : (c : Record) (text : List ℕ) → Parts c text → IsKind kind c text = λ c text t.
+    let u = t.is_rest in
+    let v = u.is_rest in
+    subst (λ (r : Record). IsKind kind r text) (sym v.made) (rw (t.parts, t.is_first.is, u.parts, u.is_first.is, v.is_from.is) (is t.first u.first v.from t.is_first.good u.is_first.good v.is_from.good)) in
+    let from : (c : Record) (text : List ℕ) → IsKind kind c text → Parts c text = λ c text k.
+    let f = of c text k in
+    record {
+      first = f.x;
+      head = a f.x;
+      tail = b f.y ++ d f.z;
+      is_first = record { good = f.good_x; is = refl };
+      is_rest = record {
+        first = f.y;
+        head = b f.y;
+        tail = d f.z;
+        is_first = record { good = f.good_y; is = refl };
+        is_rest = record { from = f.z; is_from = record { good = f.good_z; is = refl }; made = f.made };
+        parts = refl;
+      };
+      parts = text_of kind c (make f.x f.y f.z) text (a f.x ++ (b f.y ++ d f.z)) k f.made (is f.x f.y f.z f.good_x f.good_y f.good_z).is;
+    } in
+    alike Parts (IsKind kind) (λ bytes. one bytes >>= λ p. (other p.1 >>= λ q. (last q.1 >>= λ r. remade (make p.0 q.0) r))) to from
+    (then reads_a (λ x t s. then reads_b (λ y t s. makes (make x y) reads_c)))
+
+attempt_of : (c : Record) (text : List ℕ) → IsKind 3 c text → OfTwo IsNumber IsLong (λ run moment. kinds.Attempt run moment) c
+attempt_of (kinds.Attempt run moment) text k = record { x = run; y = moment; good_x = k.good.0; good_y = k.good.1; made = refl }
+attempt_of c text k = absurd (cc (k.is))
 
 pub attempt_kind : Reads (IsKind 3) attempt_at
 unfolding attempt_at
-attempt_kind = alike AttemptParts (IsKind 3) attempt_at attempt_to attempt_from
-    (then number32 (λ run _ _. makes (λ moment. kinds.Attempt run moment) number64))
+attempt_kind = two_fields 3 (λ run moment. kinds.Attempt run moment) number32 number64 (λ run moment p q. record { good = (p, q); is = refl }) attempt_of
 
--- ---- Begin
-
-abbrev BeginParts : Record → List ℕ → Type 0
-BeginParts = Then (Number w32 (2 ^ 32)) (λ run. Made (Number w32 (2 ^ 32)) (λ stage. kinds.Begin run stage))
-
-begin_to : (c : Record) (text : List ℕ) → BeginParts c text → IsKind 4 c text
-begin_to c text t =
-    let u = t.is_rest in
-    subst (λ (r : Record). IsKind 4 r text) (sym u.made) (record { good = (t.is_first.good, u.is_from.good); is = rw (t.parts, t.is_first.is, u.is_from.is) refl })
-
-begin_from : (c : Record) (text : List ℕ) → IsKind 4 c text → BeginParts c text
-begin_from (kinds.Begin run stage) text k = record {
-  first = run;
-  head = four_bytes run;
-  tail = four_bytes stage;
-  is_first = record { good = k.good.0; is = refl };
-  is_rest = record { from = stage; is_from = record { good = k.good.1; is = refl }; made = refl };
-  parts = behind _ _ _ _ k.is;
-}
-begin_from c text k = absurd (cc (k.is))
+begin_of : (c : Record) (text : List ℕ) → IsKind 4 c text → OfTwo IsNumber IsNumber (λ run stage. kinds.Begin run stage) c
+begin_of (kinds.Begin run stage) text k = record { x = run; y = stage; good_x = k.good.0; good_y = k.good.1; made = refl }
+begin_of c text k = absurd (cc (k.is))
 
 pub begin_kind : Reads (IsKind 4) begin_at
 unfolding begin_at
-begin_kind = alike BeginParts (IsKind 4) begin_at begin_to begin_from
-    (then number32 (λ run _ _. makes (λ stage. kinds.Begin run stage) number32))
+begin_kind = two_fields 4 (λ run stage. kinds.Begin run stage) number32 number32 (λ run stage p q. record { good = (p, q); is = refl }) begin_of
 
--- ---- Done
-
-abbrev DoneParts : Record → List ℕ → Type 0
-DoneParts = Then (Number w32 (2 ^ 32)) (λ run. Made (Number w32 (2 ^ 32)) (λ stage. kinds.Done run stage))
-
-done_to : (c : Record) (text : List ℕ) → DoneParts c text → IsKind 5 c text
-done_to c text t =
-    let u = t.is_rest in
-    subst (λ (r : Record). IsKind 5 r text) (sym u.made) (record { good = (t.is_first.good, u.is_from.good); is = rw (t.parts, t.is_first.is, u.is_from.is) refl })
-
-done_from : (c : Record) (text : List ℕ) → IsKind 5 c text → DoneParts c text
-done_from (kinds.Done run stage) text k = record {
-  first = run;
-  head = four_bytes run;
-  tail = four_bytes stage;
-  is_first = record { good = k.good.0; is = refl };
-  is_rest = record { from = stage; is_from = record { good = k.good.1; is = refl }; made = refl };
-  parts = behind _ _ _ _ k.is;
-}
-done_from c text k = absurd (cc (k.is))
+done_of : (c : Record) (text : List ℕ) → IsKind 5 c text → OfTwo IsNumber IsNumber (λ run stage. kinds.Done run stage) c
+done_of (kinds.Done run stage) text k = record { x = run; y = stage; good_x = k.good.0; good_y = k.good.1; made = refl }
+done_of c text k = absurd (cc (k.is))
 
 pub done_kind : Reads (IsKind 5) done_at
 unfolding done_at
-done_kind = alike DoneParts (IsKind 5) done_at done_to done_from
-    (then number32 (λ run _ _. makes (λ stage. kinds.Done run stage) number32))
+done_kind = two_fields 5 (λ run stage. kinds.Done run stage) number32 number32 (λ run stage p q. record { good = (p, q); is = refl }) done_of
 
--- ---- Skip
-
-abbrev SkipParts : Record → List ℕ → Type 0
-SkipParts = Then (Number w32 (2 ^ 32)) (λ run. Then (Number w32 (2 ^ 32)) (λ stage. Made (Number w32 (2 ^ 32)) (λ machine. kinds.Skip run stage machine)))
-
-skip_to : (c : Record) (text : List ℕ) → SkipParts c text → IsKind 6 c text
-skip_to c text t =
-    let u = t.is_rest in
-    let v = u.is_rest in
-    subst (λ (r : Record). IsKind 6 r text) (sym v.made) (record { good = (t.is_first.good, u.is_first.good, v.is_from.good); is = rw (t.parts, t.is_first.is, u.parts, u.is_first.is, v.is_from.is) refl })
-
-skip_from : (c : Record) (text : List ℕ) → IsKind 6 c text → SkipParts c text
-skip_from (kinds.Skip run stage machine) text k = record {
-  first = run;
-  head = four_bytes run;
-  tail = four_bytes stage ++ (four_bytes machine);
-  is_first = record { good = k.good.0; is = refl };
-  is_rest = record {
-    first = stage;
-    head = four_bytes stage;
-    tail = four_bytes machine;
-    is_first = record { good = k.good.1; is = refl };
-    is_rest = record { from = machine; is_from = record { good = k.good.2; is = refl }; made = refl };
-    parts = refl;
-  };
-  parts = behind _ _ _ _ k.is;
-}
-skip_from c text k = absurd (cc (k.is))
+skip_of : (c : Record) (text : List ℕ) → IsKind 6 c text → OfThree IsNumber IsNumber IsNumber (λ run stage machine. kinds.Skip run stage machine) c
+skip_of (kinds.Skip run stage machine) text k = record { x = run; y = stage; z = machine; good_x = k.good.0; good_y = k.good.1; good_z = k.good.2; made = refl }
+skip_of c text k = absurd (cc (k.is))
 
 pub skip_kind : Reads (IsKind 6) skip_at
 unfolding skip_at
-skip_kind = alike SkipParts (IsKind 6) skip_at skip_to skip_from
-    (then number32 (λ run _ _. then number32 (λ stage _ _. makes (λ machine. kinds.Skip run stage machine) number32)))
+skip_kind = three_fields 6 (λ run stage machine. kinds.Skip run stage machine) number32 number32 number32 (λ run stage machine p q r. record { good = (p, q, r); is = refl }) skip_of
 
--- ---- Aside
-
-abbrev AsideParts : Record → List ℕ → Type 0
-AsideParts = Then (Number w32 (2 ^ 32)) (λ run. Then (Number w32 (2 ^ 32)) (λ machine. Made (Number w32 (2 ^ 32)) (λ by_machine. kinds.Aside run machine by_machine)))
-
-aside_to : (c : Record) (text : List ℕ) → AsideParts c text → IsKind 7 c text
-aside_to c text t =
-    let u = t.is_rest in
-    let v = u.is_rest in
-    subst (λ (r : Record). IsKind 7 r text) (sym v.made) (record { good = (t.is_first.good, u.is_first.good, v.is_from.good); is = rw (t.parts, t.is_first.is, u.parts, u.is_first.is, v.is_from.is) refl })
-
-aside_from : (c : Record) (text : List ℕ) → IsKind 7 c text → AsideParts c text
-aside_from (kinds.Aside run machine by_machine) text k = record {
-  first = run;
-  head = four_bytes run;
-  tail = four_bytes machine ++ (four_bytes by_machine);
-  is_first = record { good = k.good.0; is = refl };
-  is_rest = record {
-    first = machine;
-    head = four_bytes machine;
-    tail = four_bytes by_machine;
-    is_first = record { good = k.good.1; is = refl };
-    is_rest = record { from = by_machine; is_from = record { good = k.good.2; is = refl }; made = refl };
-    parts = refl;
-  };
-  parts = behind _ _ _ _ k.is;
-}
-aside_from c text k = absurd (cc (k.is))
+aside_of : (c : Record) (text : List ℕ) → IsKind 7 c text → OfThree IsNumber IsNumber IsNumber (λ run machine by_machine. kinds.Aside run machine by_machine) c
+aside_of (kinds.Aside run machine by_machine) text k = record { x = run; y = machine; z = by_machine; good_x = k.good.0; good_y = k.good.1; good_z = k.good.2; made = refl }
+aside_of c text k = absurd (cc (k.is))
 
 pub aside_kind : Reads (IsKind 7) aside_at
 unfolding aside_at
-aside_kind = alike AsideParts (IsKind 7) aside_at aside_to aside_from
-    (then number32 (λ run _ _. then number32 (λ machine _ _. makes (λ by_machine. kinds.Aside run machine by_machine) number32)))
+aside_kind = three_fields 7 (λ run machine by_machine. kinds.Aside run machine by_machine) number32 number32 number32 (λ run machine by_machine p q r. record { good = (p, q, r); is = refl }) aside_of
 
--- ---- Answer
-
-abbrev AnswerParts : Record → List ℕ → Type 0
-AnswerParts = Then (Number w32 (2 ^ 32)) (λ run. Then (Number w32 (2 ^ 32)) (λ step. Made (Spelled IsName name_text) (λ name. kinds.Answer run step name)))
-
-answer_to : (c : Record) (text : List ℕ) → AnswerParts c text → IsKind 8 c text
-answer_to c text t =
-    let u = t.is_rest in
-    let v = u.is_rest in
-    subst (λ (r : Record). IsKind 8 r text) (sym v.made) (record { good = (t.is_first.good, u.is_first.good, v.is_from.good); is = rw (t.parts, t.is_first.is, u.parts, u.is_first.is, v.is_from.is) refl })
-
-answer_from : (c : Record) (text : List ℕ) → IsKind 8 c text → AnswerParts c text
-answer_from (kinds.Answer run step name) text k = record {
-  first = run;
-  head = four_bytes run;
-  tail = four_bytes step ++ (name_text name);
-  is_first = record { good = k.good.0; is = refl };
-  is_rest = record {
-    first = step;
-    head = four_bytes step;
-    tail = name_text name;
-    is_first = record { good = k.good.1; is = refl };
-    is_rest = record { from = name; is_from = record { good = k.good.2; is = refl }; made = refl };
-    parts = refl;
-  };
-  parts = behind _ _ _ _ k.is;
-}
-answer_from c text k = absurd (cc (k.is))
+answer_of : (c : Record) (text : List ℕ) → IsKind 8 c text → OfThree IsNumber IsNumber IsName (λ run step name. kinds.Answer run step name) c
+answer_of (kinds.Answer run step name) text k = record { x = run; y = step; z = name; good_x = k.good.0; good_y = k.good.1; good_z = k.good.2; made = refl }
+answer_of c text k = absurd (cc (k.is))
 
 pub answer_kind : Reads (IsKind 8) answer_at
 unfolding answer_at
-answer_kind = alike AnswerParts (IsKind 8) answer_at answer_to answer_from
-    (then number32 (λ run _ _. then number32 (λ step _ _. makes (λ name. kinds.Answer run step name) name_reads)))
+answer_kind = three_fields 8 (λ run step name. kinds.Answer run step name) number32 number32 name_reads (λ run step name p q r. record { good = (p, q, r); is = refl }) answer_of
+
+finish_of : (c : Record) (text : List ℕ) → IsKind 10 c text → OfThree IsNumber IsLong (IsList IsNumber) (λ run moment machines. kinds.Finish run moment machines) c
+finish_of (kinds.Finish run moment machines) text k = record { x = run; y = moment; z = machines; good_x = k.good.0; good_y = k.good.1; good_z = k.good.2; made = refl }
+finish_of c text k = absurd (cc (k.is))
+
+pub finish_kind : Reads (IsKind 10) finish_at
+unfolding finish_at
+finish_kind = three_fields 10 (λ run moment machines. kinds.Finish run moment machines) number32 number64 numbers_reads (λ run moment machines p q r. record { good = (p, q, r); is = refl }) finish_of
 
 -- ---- Code
 
@@ -336,37 +296,3 @@ pub code_kind : Reads (IsKind 9) code_at
 unfolding code_at
 code_kind = alike CodeParts (IsKind 9) code_at code_to code_from
     (then number32 (λ run _ _. then number64 (λ token _ _. then number32 (λ machine _ _. makes (λ code. kinds.Code run token machine code) (byte_reads 0 255 (omega arith))))))
-
--- ---- Finish
-
-abbrev FinishParts : Record → List ℕ → Type 0
-FinishParts = Then (Number w32 (2 ^ 32)) (λ run. Then (Number w64 (2 ^ 64)) (λ moment. Made (Spelled (IsList IsNumber) (list_text four_bytes)) (λ machines. kinds.Finish run moment machines)))
-
-finish_to : (c : Record) (text : List ℕ) → FinishParts c text → IsKind 10 c text
-finish_to c text t =
-    let u = t.is_rest in
-    let v = u.is_rest in
-    subst (λ (r : Record). IsKind 10 r text) (sym v.made) (record { good = (t.is_first.good, u.is_first.good, v.is_from.good); is = rw (t.parts, t.is_first.is, u.parts, u.is_first.is, v.is_from.is) refl })
-
-finish_from : (c : Record) (text : List ℕ) → IsKind 10 c text → FinishParts c text
-finish_from (kinds.Finish run moment machines) text k = record {
-  first = run;
-  head = four_bytes run;
-  tail = eight_bytes moment ++ (list_text four_bytes machines);
-  is_first = record { good = k.good.0; is = refl };
-  is_rest = record {
-    first = moment;
-    head = eight_bytes moment;
-    tail = list_text four_bytes machines;
-    is_first = record { good = k.good.1; is = refl };
-    is_rest = record { from = machines; is_from = record { good = k.good.2; is = refl }; made = refl };
-    parts = refl;
-  };
-  parts = behind _ _ _ _ k.is;
-}
-finish_from c text k = absurd (cc (k.is))
-
-pub finish_kind : Reads (IsKind 10) finish_at
-unfolding finish_at
-finish_kind = alike FinishParts (IsKind 10) finish_at finish_to finish_from
-    (then number32 (λ run _ _. then number64 (λ moment _ _. makes (λ machines. kinds.Finish run moment machines) numbers_reads)))

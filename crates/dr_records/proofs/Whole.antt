@@ -3,11 +3,11 @@ use Rattle.std.proofs.Common.{◌≡◌, ℕ, zero, suc, ◌+◌, ◌-◌, ◌^�
 use Rattle.std.proofs.lemmas.Bool.{eqb-true, eqb-false, cases_order}
 use Rattle.std.proofs.lemmas.List.{append-nil, nil_from_length, take_at, take-append-drop, take-take, length_push}
 use Rattle.std.proofs.lemmas.List.Elements.{All-from_get_or}
+use Rattle.dr_base.specs.declared.stop.Stop.{Stop}
+use Rattle.dr_base.specs.declared.stop.Stop.TheVariants as stops
 use Rattle.dr_records.specs.declared.records.Record.{Record}
 use Rattle.dr_records.specs.declared.records.Record.TheVariants as kinds
 use Rattle.dr_records.specs.Spelling.{HasShortLists, spelling, IsRecord, IsOther, BeginsRecord, IsFirstFault}
-use Rattle.dr_records.specs.declared.reading.Stop.{Stop}
-use Rattle.dr_records.specs.declared.reading.Stop.TheVariants as stops
 use Rattle.dr_records.specs.declared.record_fault.RecordFault.{RecordFault}
 use Rattle.dr_records.specs.declared.record_fault.RecordFault.TheVariants as faults
 use Rattle.dr_records.specs.Reading.{◌>>=◌, StopsAs, fields_at, other_at, whole_other, record_of}
@@ -282,8 +282,8 @@ no_front a b rest f other g e =
     (ap (λ (p : Record × List ℕ). p.0) pair, ap (λ (p : Record × List ℕ). p.1) pair)
 
 -- where a reader of all of the bytes stopped
-pub stopped : (bytes : List ℕ) (stop : Stop) (left : ℕ) → IsBytes bytes → stop ≡ stops.Stuck left → StopsAs stop (record_of bytes) → IsFault bytes left
-stopped bytes stop left fits e h = is_fault bytes left fits (subst (λ (s : Stop). StopsAs s (record_of bytes)) e h)
+pub stopped : (bytes : List ℕ) (stop : Stop ℕ) (left : ℕ) → IsBytes bytes → stop ≡ stops.Fault left → StopsAs stop (record_of bytes) → IsFault bytes left
+stopped bytes stop left fits e h = is_fault bytes left fits (subst (λ (s : Stop ℕ). StopsAs s (record_of bytes)) e h)
 
 abbrev pub answer : ℕ → Result Record RecordFault
 answer n = Err (faults.Malformed n)

@@ -4,11 +4,11 @@ use Rattle.std.specs.Int.{Width, w16, w32, w64, byte_len, from_be_bytes}
 use Rattle.dr_base.specs.Names.{is_name}
 use Rattle.dr_base.specs.declared.command.Op.{Op}
 use Rattle.dr_base.specs.declared.command.Op.TheVariants.{Testing, Cleanup, Migrate, Failover, Reprotect}
+use Rattle.dr_base.specs.declared.stop.Stop.{Stop}
+use Rattle.dr_base.specs.declared.stop.Stop.TheVariants as stops
 use Rattle.dr_records.specs.declared.records.Record.{Record}
 use Rattle.dr_records.specs.declared.records.Record.TheVariants as kinds
 use Rattle.dr_records.specs.declared.records.StartPair.{StartPair}
-use Rattle.dr_records.specs.declared.reading.Stop.{Stop}
-use Rattle.dr_records.specs.declared.reading.Stop.TheVariants as stops
 
 infixl 10 ◌>>=◌
 -- what comes next, where nothing failed
@@ -17,12 +17,12 @@ abbrev pub ◌>>=◌ : {A B : Type 0} → Result A ℕ → (A → Result B ℕ) 
 (Err left) >>= f = Err left
 
 -- a function stopped where reading does, unless memory was wanting
-abbrev pub StopsAs : {Y : Type 0} → Stop → Result Y ℕ → Type 0
-StopsAs stops.NoMemory read = Unit {0}
-StopsAs (stops.Stuck left) read = read ≡ Err left
+abbrev pub StopsAs : {Y : Type 0} → Stop ℕ → Result Y ℕ → Type 0
+StopsAs stops.Memory read = Unit {0}
+StopsAs (stops.Fault left) read = read ≡ Err left
 
 -- what a function returned, seen by view, is what reading gives, unless memory was wanting
-abbrev pub Gives : {X Y : Type 0} → (X → Y) → Result X Stop → Result Y ℕ → Type 0
+abbrev pub Gives : {X Y : Type 0} → (X → Y) → Result X (Stop ℕ) → Result Y ℕ → Type 0
 Gives view (Ok x) read = read ≡ Ok (view x)
 Gives view (Err stop) read = StopsAs stop read
 

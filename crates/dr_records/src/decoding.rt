@@ -26,7 +26,7 @@ pub fn decode(alloc: Global, bytes: &[u8]) -> Result<Record, RecordFault>
 {
     match record_of(alloc, bytes) {
         Ok(item) => Ok(item),
-        Err(Stop::Stuck(left)) => Err(RecordFault::Malformed((bytes.len() - left) as u32)),
-        Err(Stop::NoMemory) => Err(RecordFault::NoMemory),
+        Err(Stop::Fault(left)) => Err(RecordFault::Malformed((bytes.len() - left) as u32)),
+        Err(Stop::Memory) => Err(RecordFault::NoMemory),
     }
 }

@@ -1,41 +1,20 @@
 ghost use Rattle.std.specs.Prelude.{◌≡◌, ◌≤◌, length, List};
 ghost use Rattle.std.specs.Int.{w16, w32, w64};
 ghost use Rattle.dr_records.specs.Reading.{Gives, number_at, byte_at, longest_name, name_of, name_at, op_at, flag_at, list_at, entries_at, pair_at, start_at, attempt_at, begin_at, done_at, skip_at, aside_at, answer_at, code_at, finish_at, fields_at, whole_other, record_of};
-ghost use Rattle.dr_records.specs.declared.reading.Stop.TheVariants.{NoMemory};
 
 use crate::records::{Record, StartPair, StartRow};
 use dr_base::{Name, Op, Rows};
-use std::alloc::{AllocError, AllocFailed, Global};
+use std::alloc::Global;
 
-// Why a reader gave nothing.
-#[derive(Debug, Drop)]
-pub(crate) enum Stop {
-    // The bytes can't go on at the place where so many of them are left.
-    Stuck(usize),
-    NoMemory,
-}
-
-impl From<AllocError> for Stop {
-    ghost from_gives = { λ _ e. e ≡ NoMemory };
-
-    fn from(_e: AllocError) -> Stop {
-        Stop::NoMemory
-    }
-}
-
-impl<T: Drop> From<AllocFailed<T>> for Stop {
-    ghost from_gives = { λ _ e. e ≡ NoMemory };
-
-    fn from(_e: AllocFailed<T>) -> Stop {
-        Stop::NoMemory
-    }
-}
+// Why a reader gave nothing: memory ran out, or the bytes can't go on at the place where so many of
+// them are left.
+pub(crate) type Stop = dr_base::Stop<usize>;
 
 fn u16_at(bytes: &[u8]) -> Result<(u16, &[u8]), Stop>
     ensures { Gives (λ x. (x.0, x.1.now)) result (number_at w16 bytes.now) }
 {
     if bytes.len() < 2 {
-        return Err(Stop::Stuck(0));
+        return Err(Stop::Fault(0));
     }
     let (front, rest) = bytes.split_at(2);
     Ok((u16::from_be_bytes([front[0], front[1]]), rest))
@@ -45,7 +24,7 @@ fn u32_at(bytes: &[u8]) -> Result<(u32, &[u8]), Stop>
     ensures { Gives (λ x. (x.0, x.1.now)) result (number_at w32 bytes.now) }
 {
     if bytes.len() < 4 {
-        return Err(Stop::Stuck(0));
+        return Err(Stop::Fault(0));
     }
     let (front, rest) = bytes.split_at(4);
     let number = u32::from_be_bytes([front[0], front[1], front[2], front[3]]);
@@ -56,7 +35,7 @@ fn u64_at(bytes: &[u8]) -> Result<(u64, &[u8]), Stop>
     ensures { Gives (λ x. (x.0, x.1.now)) result (number_at w64 bytes.now) }
 {
     if bytes.len() < 8 {
-        return Err(Stop::Stuck(0));
+        return Err(Stop::Fault(0));
     }
     let (front, rest) = bytes.split_at(8);
     let number = u64::from_be_bytes([
@@ -70,9 +49,9 @@ fn byte_in(bytes: &[u8], least: u8, greatest: u8) -> Result<(u8, &[u8]), Stop>
     ensures { Gives (λ x. (x.0, x.1.now)) result (byte_at least greatest bytes.now) }
 {
     match bytes {
-        [] => Err(Stop::Stuck(0)),
+        [] => Err(Stop::Fault(0)),
         [byte, rest @ ..] if least <= *byte && *byte <= greatest => Ok((*byte, rest)),
-        [_, ..] => Err(Stop::Stuck(bytes.len())),
+        [_, ..] => Err(Stop::Fault(bytes.len())),
     }
 }
 
@@ -117,7 +96,7 @@ fn name_of(bytes: &[u8], size: usize) -> Result<(Name, &[u8]), Stop>
     let front = &bytes[..size.min(bytes.len())];
     match Name::read(front) {
         Some(name) if size <= bytes.len() => Ok((name, &bytes[size..])),
-        _ => Err(Stop::Stuck(bytes.len() - longest_name(front))),
+        _ => Err(Stop::Fault(bytes.len() - longest_name(front))),
     }
 }
 
@@ -328,7 +307,7 @@ fn whole_other(alloc: Global, bytes: &[u8]) -> Result<Record, Stop>
     let (kind, rest) = byte_in(bytes, 2, 10)?;
     let (item, rest) = fields(alloc, kind, rest)?;
     if !rest.is_empty() {
-        return Err(Stop::Stuck(rest.len()));
+        return Err(Stop::Fault(rest.len()));
     }
     Ok(item)
 }
@@ -337,7 +316,7 @@ pub(crate) fn record_of(alloc: Global, bytes: &[u8]) -> Result<Record, Stop>
     ensures { Gives (λ item. item) result (record_of bytes.now) }
 {
     match bytes {
-        [] => Err(Stop::Stuck(0)),
+        [] => Err(Stop::Fault(0)),
         [1, estate @ ..] => Ok(Record::Estate(Rows::new(Vec::from_slice(alloc, estate)?))),
         [_, ..] => whole_other(alloc, bytes),
     }

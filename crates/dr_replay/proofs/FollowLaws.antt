@@ -1,9 +1,9 @@
 -- Which record may come, by the run that it belongs to.
 use Rattle.std.specs.Prelude.{◌≡◌, Bool, true, false, IsTrue, ◌↔◌, List, Option, Some, None, IsSomeAnd, Result, Ok, Err, IfOk}
 use Rattle.std.proofs.Common.{sym, subst}
-use Rattle.dr_model.specs.Types.{Record}
-use Rattle.dr_model.specs.Runs.{Setting, Run, run_named, run_at, is_open}
-use Rattle.dr_model.specs.Lawful.{OpenAnd, MayCome}
+use Rattle.dr_meaning.specs.Types.{Record}
+use Rattle.dr_meaning.specs.Runs.{Setting, Run, run_named, run_at, is_open}
+use Rattle.dr_meaning.specs.Lawful.{OpenAnd, MayCome}
 use Rattle.dr_replay.specs.Following.{is_start, MayTake}
 
 -- a record that is no Start may come where its run is open and may take it

@@ -4,10 +4,10 @@ use Rattle.std.proofs.Common.{refl, subst, get_or}
 use Rattle.std.proofs.lemmas.List.{take_more}
 use Rattle.std.proofs.lemmas.List.Sums.{fold-append}
 use Rattle.std.proofs.lemmas.Option.{slice_get-get_or}
-use Rattle.dr_model.specs.Types.{Record, StartRow}
-use Rattle.dr_model.specs.Runs.{Setting, Run, add_record, runs_of}
-use Rattle.dr_model.specs.Lawful.{MayCome, LawfulAfter}
-use Rattle.dr_model.proofs.AppendLaws.{LawfulAfter-append}
+use Rattle.dr_meaning.specs.Types.{Record, StartRow}
+use Rattle.dr_meaning.specs.Runs.{Setting, Run, add_record, runs_of}
+use Rattle.dr_meaning.specs.Lawful.{MayCome, LawfulAfter}
+use Rattle.dr_meaning.proofs.AppendLaws.{LawfulAfter-append}
 use Rattle.dr_replay.specs.Replays.{IsFirstUnlawful}
 use Rattle.dr_replay.specs.Following.{is_start}
 

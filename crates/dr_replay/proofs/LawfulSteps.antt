@@ -3,13 +3,13 @@ use Rattle.std.specs.Prelude.{◌≡◌, ℕ, ◌==◌, Bool, false, IsTrue, ◌
 use Rattle.std.specs.List.{AllByRecursion}
 use Rattle.std.proofs.Common.{sym, ◌∙◌, subst, inl, inr, eq-eqb}
 use Rattle.std.proofs.lemmas.Bool.{false≢true, eqb-true}
-use Rattle.dr_model.specs.declared.stage.StageKind.{StageKind}
-use Rattle.dr_model.specs.declared.stage.Stage.{Stage}
-use Rattle.dr_model.specs.Visits.{all}
-use Rattle.dr_model.specs.Runs.{Run, root}
-use Rattle.dr_model.specs.Meaning.{is_left}
-use Rattle.dr_model.specs.Lawful.{is_coded, token_of, dependencies, HasCodes, IsCause}
-use Rattle.dr_model.proofs.ChainLaws.{pick}
+use Rattle.dr_meaning.proofs.Elements.{pick}
+use Rattle.dr_meaning.specs.declared.stage.StageKind.{StageKind}
+use Rattle.dr_meaning.specs.declared.stage.Stage.{Stage}
+use Rattle.dr_meaning.specs.Visits.{all}
+use Rattle.dr_meaning.specs.Runs.{Run, root}
+use Rattle.dr_meaning.specs.Meaning.{is_left}
+use Rattle.dr_meaning.specs.Lawful.{is_coded, token_of, dependencies, HasCodes, IsCause}
 
 -- the codes of a Command stage: its one
 pub codes_of_command : (run : Run) (stage : Stage) (kind : StageKind) (token : ℕ) (b : Bool) → kind ≡ StageKind.Command → token ≡ token_of (root run) stage.step → b ≡ is_coded run token all → IsTrue b ↔ HasCodes run kind stage

@@ -2,14 +2,13 @@
 use Rattle.std.specs.Prelude.{◌≡◌, ℕ, Bool, true, false, IsTrue, ◌↔◌, List, Option, Some, None, map, reverse, find}
 use Rattle.std.proofs.Common.{refl, sym, ◌∙◌, subst}
 use Rattle.std.proofs.lemmas.Bool.{false≢true}
-use Rattle.dr_model.specs.declared.stage.StageKind.{StageKind}
-use Rattle.dr_model.specs.Stages.{has, stage_at}
-use Rattle.dr_model.specs.Visits.{Visit, visits, is_excused}
-use Rattle.dr_model.specs.Runs.{Run, stages_of}
-use Rattle.dr_model.specs.Meaning.{is_left, is_wave_of}
-use Rattle.dr_model.proofs.Lists.{Each, all_each, each-map, each-of-map, each-reverse, each-find}
-use Rattle.dr_model.proofs.Elements.{each-contains, has-contains}
-use Rattle.dr_model.proofs.ChainLaws.{pick}
+use Rattle.dr_meaning.specs.declared.stage.StageKind.{StageKind}
+use Rattle.dr_meaning.specs.Stages.{has, stage_at}
+use Rattle.dr_meaning.specs.Visits.{Visit, visits, is_excused}
+use Rattle.dr_meaning.specs.Runs.{Run, stages_of}
+use Rattle.dr_meaning.specs.Meaning.{is_left, is_wave_of}
+use Rattle.dr_meaning.proofs.Lists.{Each, all_each, each-map, each-of-map, each-reverse, each-find}
+use Rattle.dr_meaning.proofs.Elements.{each-contains, has-contains, pick}
 use Rattle.dr_replay.specs.declared.visiting.Visit.{Visit as VisitValue}
 use Rattle.dr_replay.specs.Values.{visit_of, visits_told}
 use Rattle.dr_replay.specs.Following.{NamesIfLeft}

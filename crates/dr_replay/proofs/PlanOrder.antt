@@ -2,8 +2,8 @@
 use Rattle.std.specs.Prelude.{◌≡◌, ℕ, ◌==◌, Bool, true, false, cond, IsTrue, ◌↔◌, List, [], ◌∷◌, Some, find}
 use Rattle.std.proofs.Common.{refl, sym, ◌∙◌, ap, subst, eq-eqb}
 use Rattle.std.proofs.lemmas.Bool.{eqb-true}
-use Rattle.dr_model.specs.Runs.{Run, number, run_at}
-use Rattle.dr_model.proofs.Lists.{find-passes}
+use Rattle.dr_meaning.specs.Runs.{Run, number, run_at}
+use Rattle.dr_meaning.proofs.Lists.{find-passes}
 
 -- two tests find one element, where each of the two that they find passes both
 pub find_one : {X : Type 0} (p q : X → Bool) (x y : X) → p x ≡ true → q y ≡ true → (xs : List X) → find q xs ≡ Some x → find p xs ≡ Some y → x ≡ y

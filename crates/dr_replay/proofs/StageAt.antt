@@ -4,8 +4,8 @@ use Rattle.std.specs.Borrow.{Bor}
 use Rattle.std.specs.List.{HoldsAt}
 use Rattle.std.proofs.Common.{refl, sym, ◌∙◌, get_or, arith}
 use Rattle.std.proofs.lemmas.Bool.{eq-eqb, ne_eqb}
-use Rattle.dr_model.specs.declared.Stage.{Stage}
-use Rattle.dr_model.specs.Stages.{stage_from, stage_at, no_stage}
+use Rattle.dr_meaning.specs.declared.Stage.{Stage}
+use Rattle.dr_meaning.specs.Stages.{stage_from, stage_at, no_stage}
 
 stage_from_at : (n i k : ℕ) (stages : List Stage) (d : Stage) → k ≡ n + i → i < length stages → stage_from n stages k ≡ get_or stages i d
 stage_from_at n i k [] d e l = absurd (omega arith)

@@ -1,13 +1,13 @@
 -- Which record of a run may come, by the run that it belongs to.
 use Rattle.std.specs.Prelude.{◌≡◌, ℕ, Bool, true, false, IsTrue, List}
 use Rattle.std.specs.List.{AllByRecursion}
-use Rattle.dr_model.specs.Types.{Record}
-use Rattle.dr_model.specs.declared.stage.StageKind.{StageKind}
-use Rattle.dr_model.specs.Stages.{has, stage_at}
-use Rattle.dr_model.specs.Visits.{is_excused, last_visit}
-use Rattle.dr_model.specs.Runs.{Run, stages_of}
-use Rattle.dr_model.specs.Meaning.{is_left}
-use Rattle.dr_model.specs.Lawful.{is_coded, tokens, MayBegin, MayDone, MaySkip, MaySetAside, MayAnswer, MayCode, MayFinish}
+use Rattle.dr_meaning.specs.Types.{Record}
+use Rattle.dr_meaning.specs.declared.stage.StageKind.{StageKind}
+use Rattle.dr_meaning.specs.Stages.{has, stage_at}
+use Rattle.dr_meaning.specs.Visits.{is_excused, last_visit}
+use Rattle.dr_meaning.specs.Runs.{Run, stages_of}
+use Rattle.dr_meaning.specs.Meaning.{is_left}
+use Rattle.dr_meaning.specs.Lawful.{is_coded, tokens, MayBegin, MayDone, MaySkip, MaySetAside, MayAnswer, MayCode, MayFinish}
 
 -- whether a record is a Start
 abbrev pub is_start : Record → Bool

@@ -1,9 +1,9 @@
 -- The program's values as the definitions of runs have them.
 use Rattle.std.specs.Prelude.{List, map, reverse, option_map}
 use Rattle.std.specs.Borrow.{Bor}
-use Rattle.dr_model.specs.Types.{Record, Estate, Plan}
-use Rattle.dr_model.specs.Visits.{Visit}
-use Rattle.dr_model.specs.Runs.{Setting, Run, Taken}
+use Rattle.dr_meaning.specs.Types.{Record, Estate, Plan}
+use Rattle.dr_meaning.specs.Visits.{Visit}
+use Rattle.dr_meaning.specs.Runs.{Setting, Run, Taken}
 use Rattle.dr_replay.specs.declared.runs.Run.{Run as RunValue}
 use Rattle.dr_replay.specs.declared.runs.Taken.{Taken as TakenValue}
 use Rattle.dr_replay.specs.declared.visiting.Visit.{Visit as VisitValue}

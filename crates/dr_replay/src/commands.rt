@@ -3,9 +3,9 @@
 ghost use Rattle.std.specs.Prelude.{◌≡◌, ◌∷◌, IfOk, List};
 ghost use Rattle.std.specs.Option.{option_copied};
 ghost use Rattle.std.specs.List.{list_any};
-ghost use Rattle.dr_model.specs.Types.{Record as RecordValue};
-ghost use Rattle.dr_model.specs.Runs.{root};
-ghost use Rattle.dr_model.specs.Lawful.{is_answer, is_answered, is_code, is_coded, token_of, tokens_from, tokens as tokens_in, plan_machine, dependencies, last_aside};
+ghost use Rattle.dr_meaning.specs.Types.{Record as RecordValue};
+ghost use Rattle.dr_meaning.specs.Runs.{root};
+ghost use Rattle.dr_meaning.specs.Lawful.{is_answer, is_answered, is_code, is_coded, token_of, tokens_from, tokens as tokens_in, plan_machine, dependencies, last_aside};
 ghost use Rattle.dr_replay.specs.Values.{run_of, newest_first};
 
 use crate::Run;

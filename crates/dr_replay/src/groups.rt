@@ -1,9 +1,9 @@
 //! The states of protection groups.
 
 ghost use Rattle.std.specs.Prelude.{◌≡◌, ◌==◌, List, [], reverse, map, slice_get};
-ghost use Rattle.dr_model.specs.Types.{Plan as PlanValue};
-ghost use Rattle.dr_model.specs.Stages.{has};
-ghost use Rattle.dr_model.specs.Runs.{holds, is_finish, is_finished, is_open, finish, named_side, group_state, protected_side};
+ghost use Rattle.dr_meaning.specs.Types.{Plan as PlanValue};
+ghost use Rattle.dr_meaning.specs.Stages.{has};
+ghost use Rattle.dr_meaning.specs.Runs.{holds, is_finish, is_finished, is_open, finish, named_side, group_state, protected_side};
 ghost use Rattle.dr_replay.specs.Values.{run_of, runs_told, in_force};
 
 use crate::Run;

@@ -4,13 +4,13 @@ ghost use Rattle.std.specs.Prelude.{◌≡◌, ◌==◌, ◌<◌, ◌≤◌, ◌
 ghost use Rattle.std.specs.Option.{option_map};
 ghost use Rattle.std.specs.List.{list_all, AllByRecursion};
 ghost use Rattle.std.specs.List.Sorted.{IsStrictlyIncreasing};
-ghost use Rattle.dr_model.specs.Types.{Op as OpValue};
-ghost use Rattle.dr_model.specs.Stages.{has, stage_at};
-ghost use Rattle.dr_model.specs.Visits.{begun, is_excused};
-ghost use Rattle.dr_model.specs.Runs.{Setting, op, stages_of, run_at};
-ghost use Rattle.dr_model.specs.Meaning.{is_left};
-ghost use Rattle.dr_model.specs.Next.{next_stage};
-ghost use Rattle.dr_model.specs.Lawful.{is_coded, tokens, HasCodes, MaySkipIn, IsCause, IsCommandOf, MayBegin, MayDone, MaySkip, MaySetAside, MayAnswer, MayCode, MayFinish, MayCome};
+ghost use Rattle.dr_meaning.specs.Types.{Op as OpValue};
+ghost use Rattle.dr_meaning.specs.Stages.{has, stage_at};
+ghost use Rattle.dr_meaning.specs.Visits.{begun, is_excused};
+ghost use Rattle.dr_meaning.specs.Runs.{Setting, op, stages_of, run_at};
+ghost use Rattle.dr_meaning.specs.Meaning.{is_left};
+ghost use Rattle.dr_meaning.specs.Next.{next_stage};
+ghost use Rattle.dr_meaning.specs.Lawful.{is_coded, tokens, HasCodes, MaySkipIn, IsCause, IsCommandOf, IsAnsweredStage, MayBegin, MayDone, MaySkip, MaySetAside, MayAnswer, MayCode, MayFinish, MayCome};
 ghost use Rattle.dr_replay.specs.Values.{run_of, runs_told};
 ghost use Rattle.dr_replay.specs.Following.{is_start, HasMachineCodes, MayExcuse, IsPromptOf, NamesIfLeft, MayTake};
 
@@ -19,7 +19,7 @@ use crate::groups::has;
 use crate::runs::{run_at, run_named};
 use crate::{Run, Walk};
 use dr_base::{NoMemory, Op};
-use dr_model::StageKind;
+use dr_meaning::StageKind;
 use dr_records::{ALL, Record};
 use std::alloc::Global;
 
@@ -139,16 +139,22 @@ impl<'r, 'a> Walk<'r, 'a> {
         matches!(self.run.start.op, Op::Failover)
     }
 
+    // Whether the stage is no prompt, or has its Answer.
+    fn is_answered(&self, stage: u32) -> bool
+        ensures { IsTrue result ↔ IsAnsweredStage (run_of self.now.run.now) (stage_at (stages_of (run_of self.now.run.now)) stage) }
+    {
+        match self.kind(stage) {
+            StageKind::Prompt => self.run.is_answered(self.step(stage)),
+            _ => true,
+        }
+    }
+
     /// Whether a Begin of the stage may come: it is the next, none is begun without being done, and
     /// a prompt has its Answer.
     pub fn may_begin(&self, stage: u32) -> bool
         ensures { IsTrue result ↔ MayBegin (run_of self.now.run.now) stage }
     {
-        let answered = match self.kind(stage) {
-            StageKind::Prompt => self.run.is_answered(self.step(stage)),
-            _ => true,
-        };
-        self.begun().is_none() && self.is_next(stage) && answered
+        self.begun().is_none() && self.is_next(stage) && self.is_answered(stage)
     }
 
     // Whether these codes of a machine's commands are there.

@@ -2,14 +2,14 @@
 
 ghost use Rattle.std.specs.Prelude.{◌≡◌};
 ghost use Rattle.std.specs.List.{list_any};
-ghost use Rattle.dr_model.specs.Runs.{stages_of};
-ghost use Rattle.dr_model.specs.Meaning.{is_left};
-ghost use Rattle.dr_model.specs.Next.{is_attempt, begun_since_attempt, least_stage, is_worked_again, least_undone, next_stage};
+ghost use Rattle.dr_meaning.specs.Runs.{stages_of};
+ghost use Rattle.dr_meaning.specs.Meaning.{is_left};
+ghost use Rattle.dr_meaning.specs.Next.{is_attempt, begun_since_attempt, least_stage, is_worked_again, least_undone, next_stage};
 ghost use Rattle.dr_replay.specs.Values.{run_of, newest_first};
 
 use crate::Walk;
 use crate::walk::same_kind;
-use dr_model::{Stage, StageKind};
+use dr_meaning::{Stage, StageKind};
 use dr_records::Record;
 
 fn is_attempt(item: &Record) -> bool

@@ -1,7 +1,7 @@
 //! Which record may come, and which of a journal's records may not.
 
 ghost use Rattle.std.specs.Prelude.{◌≡◌, ◌↔◌, [], None, IsTrue, IfOk, IfSome};
-ghost use Rattle.dr_model.specs.Lawful.{MayCome, LawfulAfter};
+ghost use Rattle.dr_meaning.specs.Lawful.{MayCome, LawfulAfter};
 ghost use Rattle.dr_replay.specs.Replays.{IsFirstUnlawful};
 ghost use Rattle.dr_replay.specs.Values.{in_force, runs_told};
 

@@ -1,8 +1,8 @@
 //! The runs that records tell.
 
 ghost use Rattle.std.specs.Prelude.{List, ◌≡◌, ◌++◌, [], ◌∷◌, ◌==◌, reverse, map, option_map, find, slice_get, IfOk, OnOk, Some, None, IsTrue};
-ghost use Rattle.dr_model.specs.Types.{Plan as PlanValue};
-ghost use Rattle.dr_model.specs.Runs.{number, run_named, take_in, take_over, as_taken, run_at, begin_run, add_record, runs_of};
+ghost use Rattle.dr_meaning.specs.Types.{Plan as PlanValue};
+ghost use Rattle.dr_meaning.specs.Runs.{number, run_named, take_in, take_over, as_taken, run_at, begin_run, add_record, runs_of};
 ghost use Rattle.dr_replay.specs.Values.{run_of, taken_of, runs_told, in_force};
 
 use crate::groups::protected_side;

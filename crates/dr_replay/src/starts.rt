@@ -2,9 +2,9 @@
 
 ghost use Rattle.std.specs.Prelude.{List, ℕ, ◌≡◌, ◌≢◌, ◌+◌, ◌==◌, ◌↔◌, IsTrue, IsSomeAnd, length, map, true, false, slice_get, option_map};
 ghost use Rattle.std.specs.List.{AllByRecursion, list_all, zip};
-ghost use Rattle.dr_model.specs.Types.{Plan as PlanValue, Record};
-ghost use Rattle.dr_model.specs.Runs.{holds, is_open, number, group_state, protected_side};
-ghost use Rattle.dr_model.specs.Lawful.{StartsFrom, takes_over, is_taken_over, over_for, is_over_test, SeenFor, IsPairRow, AreFree, MayStart, MayCome};
+ghost use Rattle.dr_meaning.specs.Types.{Plan as PlanValue, Record};
+ghost use Rattle.dr_meaning.specs.Runs.{holds, is_open, number, group_state, protected_side};
+ghost use Rattle.dr_meaning.specs.Lawful.{StartsFrom, takes_over, is_taken_over, over_for, is_over_test, SeenFor, IsPairRow, AreFree, MayStart, MayCome};
 ghost use Rattle.dr_replay.specs.Values.{run_of, runs_told, in_force};
 
 use crate::Run;

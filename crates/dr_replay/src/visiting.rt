@@ -2,8 +2,8 @@
 
 ghost use Rattle.std.specs.Prelude.{◌≡◌, ◌==◌, [], ◌∷◌, reverse, map, option_map, find, IfOk, OnOk, Some, None};
 ghost use Rattle.std.specs.Prelude.{List};
-ghost use Rattle.dr_model.specs.Types.{Record as RecordValue};
-ghost use Rattle.dr_model.specs.Visits.{mark_done, excuse, visits as visits_in, is_visit_done, is_excused, open_stage};
+ghost use Rattle.dr_meaning.specs.Types.{Record as RecordValue};
+ghost use Rattle.dr_meaning.specs.Visits.{mark_done, excuse, visits as visits_in, is_visit_done, is_excused, open_stage};
 ghost use Rattle.dr_replay.specs.Values.{visit_of, visits_told, newest_first};
 
 use crate::has;

@@ -1,16 +1,16 @@
 //! A run with its stages and its visits of them.
 
 ghost use Rattle.std.specs.Prelude.{◌≡◌, ◌<◌, ◌^◌, length, option_map, IfOk, MatchOption};
-ghost use Rattle.dr_model.specs.Stages.{stage_at, no_stage};
-ghost use Rattle.dr_model.specs.Visits.{visits as visits_in, last_visit, is_excused, is_done, begun};
-ghost use Rattle.dr_model.specs.Runs.{stages_of};
-ghost use Rattle.dr_model.specs.Meaning.{same_kind, is_wave_of, last_visit_of, is_left};
+ghost use Rattle.dr_meaning.specs.Stages.{stage_at, no_stage};
+ghost use Rattle.dr_meaning.specs.Visits.{visits as visits_in, last_visit, is_excused, is_done, begun};
+ghost use Rattle.dr_meaning.specs.Runs.{stages_of};
+ghost use Rattle.dr_meaning.specs.Meaning.{same_kind, is_wave_of, last_visit_of, is_left};
 ghost use Rattle.dr_replay.specs.Values.{run_of, newest_first, visit_of, visits_told};
 
 use crate::visiting::{is_excused, is_visit_done, last_visit, open_stage};
 use crate::{Run, Visit, has, visits};
 use dr_base::NoMemory;
-use dr_model::{Stage, StageKind, stages};
+use dr_meaning::{Stage, StageKind, stages};
 use std::alloc::Global;
 
 /// A run with its stages, and with what its records say of them.

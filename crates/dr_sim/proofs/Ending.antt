@@ -14,7 +14,7 @@ use Rattle.dr_outside.specs.declared.array.ArrayFail.TheVariants.{Failed, Wrong}
 use Rattle.dr_outside.specs.BySide.{at}
 use Rattle.dr_outside.specs.Pairs.{Drift, Made, is_fit, made, may_fail, half, target}
 use Rattle.dr_outside.specs.Arrays.{ArrayStep, SomeDone, EachStep, IsWrong, IsFirstUnfit, is_listed, has_part}
-use Rattle.dr_outside.specs.PlainArrays.{pair_at}
+use Rattle.dr_outside.specs.PairLists.{pair_at}
 use Rattle.dr_outside.proofs.Drifts.{Drift-refl}
 use Rattle.dr_sim.specs.declared.faults.ArrayFault.{ArrayFault}
 use Rattle.dr_sim.specs.Arrays.{SimArrayState, state_of, pair_before, parts_of, first_side, spent_side, list_fault, are_fit, is_done, Makes, MakesAll, ListEnds, ListStep}

@@ -1,4 +1,5 @@
 pub mod Ending
+pub mod Entries
 pub mod Marking
 pub mod Posting
 pub mod Writing

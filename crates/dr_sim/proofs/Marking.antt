@@ -9,7 +9,7 @@ use Rattle.dr_outside.specs.declared.pair.Pair.{Pair}
 use Rattle.dr_outside.specs.declared.array.ArrayCall.{ArrayCall}
 use Rattle.dr_outside.specs.Arrays.{is_listed}
 use Rattle.dr_outside.specs.Pairs.{made}
-use Rattle.dr_outside.specs.PlainArrays.{pair_at}
+use Rattle.dr_outside.specs.PairLists.{pair_at}
 use Rattle.dr_outside.proofs.Listed.{is_listed_more, is_listed_at}
 use Rattle.dr_sim.specs.Groups.{groups_of}
 

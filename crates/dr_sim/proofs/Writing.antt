@@ -4,7 +4,7 @@ use Rattle.std.proofs.lemmas.List.{get_or_default}
 use Rattle.std.proofs.lemmas.Bool.{cases_eq}
 use Rattle.dr_outside.specs.declared.pair.Pair.{Pair}
 use Rattle.dr_outside.specs.Pairs.{Drift}
-use Rattle.dr_outside.specs.PlainArrays.{pair_at, opening_pair}
+use Rattle.dr_outside.specs.PairLists.{pair_at, no_pair}
 use Rattle.dr_outside.proofs.Drifts.{Drift-refl}
 use Rattle.dr_sim.specs.declared.production.Write.{Write}
 use Rattle.dr_sim.specs.Production.{after_write, is_due, after_writes}
@@ -13,8 +13,8 @@ use Rattle.dr_sim.specs.Production.{after_write, is_due, after_writes}
 pub one_drifts : (pairs : List Pair) (v : ℕ) (q d : Pair) → v < length pairs → Drift (get_or pairs v d) q → (i : ℕ) → Drift (pair_at pairs i) (pair_at (set pairs v q) i)
 one_drifts pairs v q d l drift i =
     elim (cases_eq i v) [
-      | inl e ↦ rw (e, get_or-set_same pairs v q opening_pair l, get_or_default pairs v opening_pair d l) drift
-      | inr other ↦ rw (get_or-set_other pairs v i q opening_pair other) (Drift-refl (pair_at pairs i))
+      | inl e ↦ rw (e, get_or-set_same pairs v q no_pair l, get_or_default pairs v no_pair d l) drift
+      | inr other ↦ rw (get_or-set_other pairs v i q no_pair other) (Drift-refl (pair_at pairs i))
     ]
 
 -- one more write

@@ -14,7 +14,7 @@ use Rattle.dr_outside.specs.BySide.{at, only}
 use Rattle.dr_outside.specs.Counts.{one_more_at}
 use Rattle.dr_outside.specs.Pairs.{target, made, half, is_fit, may_fail}
 use Rattle.dr_outside.specs.Arrays.{ArrayState, is_listed, IsFirstUnfit}
-use Rattle.dr_outside.specs.PlainArrays.{pair_at}
+use Rattle.dr_outside.specs.PairLists.{pair_at}
 use Rattle.dr_sim.specs.declared.faults.ArrayFault.{ArrayFault}
 use Rattle.dr_sim.specs.declared.meter.Meter.{Meter}
 use Rattle.dr_sim.specs.declared.production.Write.{Write}

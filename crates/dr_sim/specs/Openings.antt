@@ -11,7 +11,7 @@ use Rattle.dr_outside.specs.declared.pair.Pair.{Pair}
 use Rattle.dr_outside.specs.declared.pair.Link.TheVariants.{Live}
 use Rattle.dr_outside.specs.BySide.{put, only}
 use Rattle.dr_outside.specs.Arrays.{is_listed}
-use Rattle.dr_outside.specs.PlainArrays.{pair_at}
+use Rattle.dr_outside.specs.PairLists.{pair_at}
 use Rattle.dr_sim.specs.declared.faults.ArrayFault.{ArrayFault}
 use Rattle.dr_sim.specs.declared.production.Write.{Write}
 use Rattle.dr_sim.specs.Arrays.{SimArrayState}

@@ -3,7 +3,7 @@
 ghost use Rattle.std.specs.Prelude.{◌≡◌, ℕ, ◌<◌, ◌-◌, true, false, not, ◌&&◌, ◌==◌, nat_lt, if◌then◌else◌, length, take, slice_index_or, slice_set};
 ghost use Rattle.dr_outside.specs.Arrays.{is_listed, IsPairList};
 ghost use Rattle.dr_outside.specs.Pairs.{made};
-ghost use Rattle.dr_outside.specs.PlainArrays.{pair_at};
+ghost use Rattle.dr_outside.specs.PairLists.{pair_at};
 ghost use Rattle.dr_sim.specs.Arrays.{is_done, Makes};
 ghost use Rattle.dr_sim.specs.Groups.{least_of, groups_of};
 

@@ -39,6 +39,13 @@ impl KeptCodes {
         }
     }
 
+    /// What is kept.
+    pub fn kept(&self) -> &[Kept]
+        ensures { result.now ≡ self.now.kept }
+    {
+        &self.kept
+    }
+
     /// The code that is kept for a token.
     pub fn code_of(&self, token: u64) -> Option<u8>
         ensures { result ≡ code_of self.now.kept token }

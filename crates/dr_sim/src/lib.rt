@@ -6,6 +6,7 @@ mod faults;
 mod fixed_clock;
 mod groups;
 mod kept_codes;
+pub mod laws;
 mod meter;
 mod opening;
 mod production;

@@ -4,7 +4,7 @@ ghost use Rattle.std.specs.Prelude.{◌≡◌, ℕ, ◌<◌, if◌then◌else◌
 ghost use Rattle.dr_base.specs.declared.side.Side.TheVariants.{A};
 ghost use Rattle.dr_inventory.specs.Sound.{IsSound, AllBelow};
 ghost use Rattle.dr_outside.specs.Arrays.{is_listed};
-ghost use Rattle.dr_outside.specs.PlainArrays.{pair_at};
+ghost use Rattle.dr_outside.specs.PairLists.{pair_at};
 ghost use Rattle.dr_sim.specs.Openings.{devices_in, has_device, protected_at, opening_of};
 
 use dr_base::Side;

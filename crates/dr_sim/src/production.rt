@@ -2,7 +2,7 @@
 
 ghost use Rattle.std.specs.Prelude.{◌≡◌, ℕ, if◌then◌else◌, length};
 ghost use Rattle.dr_outside.specs.Pairs.{Drift};
-ghost use Rattle.dr_outside.specs.PlainArrays.{pair_at};
+ghost use Rattle.dr_outside.specs.PairLists.{pair_at};
 ghost use Rattle.dr_sim.specs.Production.{takes_writes, after_write, is_due, after_writes};
 
 use dr_base::Side;

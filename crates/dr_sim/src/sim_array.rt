@@ -1,12 +1,13 @@
 ghost use Rattle.std.specs.Prelude.{◌≡◌, ℕ, ◌<◌, ◌≤◌, true, length, IfErr, IfOk, Ok, slice_index};
 ghost use Rattle.dr_base.specs.declared.side.Side.{Side};
 ghost use Rattle.dr_inventory.specs.Sound.{IsSound};
+ghost use Rattle.dr_inventory.specs.Consistency.{HasLeastEntries};
 ghost use Rattle.dr_outside.specs.declared.array.ArrayCall.TheVariants.{Sync, TestStart, TestStop, Prepare, Failover, Reverse};
 ghost use Rattle.dr_outside.specs.declared.array.ArrayFail.TheVariants.{Failed};
 ghost use Rattle.dr_outside.specs.BySide.{at, only};
-ghost use Rattle.dr_outside.specs.Arrays.{IsPairList, IsLeastOfClass, NamesListed, ArrayRead, ArrayStep, ArrayCause};
+ghost use Rattle.dr_outside.specs.Arrays.{IsPairList, NamesListed, ArrayRead, ArrayStep, ArrayCause};
 ghost use Rattle.dr_outside.specs.Pairs.{Drift};
-ghost use Rattle.dr_outside.specs.PlainArrays.{pair_at};
+ghost use Rattle.dr_outside.specs.PairLists.{pair_at};
 ghost use Rattle.dr_sim.specs.Arrays.{state_of, pair_before, parts_of, spent_side, is_done, Makes, MakesAll, Goes, ListStep, PairStep, IsQuiet};
 ghost use Rattle.dr_sim.specs.Faults.{array_fault};
 ghost use Rattle.dr_sim.specs.Groups.{least_of, least_of_class};
@@ -109,7 +110,7 @@ impl Model for SimArray {
 impl SimArray {
     /// The pairs of an estate's devices, live and with equal lines. Each is protected as in the
     /// first protection group that has it, and at A where none has. `writes` has, for each device,
-    /// the writes at its source and at its target.
+    /// the writes at its source and at its target. A pair's consistency group is the estate's.
     ///
     /// `faults` lists the calls that are to fail: of several for one call the first at a side that
     /// has a part in the call counts. `writer` lists what production writes. There is no fuse.
@@ -121,10 +122,10 @@ impl SimArray {
         writer: Vec<Write>,
     ) -> Result<SimArray, NoMemory>
         requires sound { IsSound estate.now }
+        requires least_entries { HasLeastEntries estate.now }
         requires one_each { length writes.now ≡ length estate.now.devices }
         ensures opening { IfOk result (IsOpening estate.now writes.now faults.items writer.items) }
-        ensures groups { IfOk result (λ array. IsLeastOfClass (slice_index estate.now.consistency) →
-            (i : ℕ) → (state_of array).group i ≡ slice_index estate.now.consistency i) }
+        ensures groups { IfOk result (λ array. (i : ℕ) → (state_of array).group i ≡ slice_index estate.now.consistency i) }
     {
         Ok(SimArray::with_memory(alloc, estate, writes, faults, writer)?)
     }

@@ -13,8 +13,8 @@ ghost use Rattle.dr_sim.specs.Ports.{placed_at, opening_port, state_of, next_fau
 use crate::faults::{PortFault, port_fault};
 use crate::kept_codes::KeptCodes;
 use crate::meter::Meter;
-use dr_base::{Name, NoMemory, Path, Placement, Side};
-use dr_outside::{Placed, Port, PortCall, PortFail, Post, RunnerFail, Sides};
+use dr_base::{Name, NoMemory, Placement, Side};
+use dr_outside::{Kept, Placed, Port, PortCall, PortFail, Post, RunnerFail, Sides};
 use std::alloc::Global;
 use std::marker::Model;
 
@@ -22,24 +22,9 @@ use std::marker::Model;
 fn placed_at(home: Side) -> Placed
     ensures { result ≡ placed_at home }
 {
-    let text: &[u8] = match home {
-        Side::A => b"A",
-        Side::B => b"B",
-    };
-    let (Some(network), Some(folder), Some(pool)) = (
-        Name::read(text),
-        Path::read(text),
-        Name::read(text),
-    ) else {
-        unreachable!();
-    };
-    Placed {
-        place: Placement {
-            network,
-            folder,
-            pool,
-        },
-        bubble: false,
+    match home {
+        Side::A => Placed::from_texts(b"A", b"A", b"A", false),
+        Side::B => Placed::from_texts(b"B", b"B", b"B", false),
     }
 }
 
@@ -126,6 +111,14 @@ impl SimPort {
         ensures there { tokens ≤ self.old.codes.room → IsOk result }
     {
         self.codes.take_room(tokens)
+    }
+
+    /// The commands whose codes are kept, with the sides of their calls, in the order in which they
+    /// ran. It counts as no call.
+    pub fn kept(&self) -> &[Kept]
+        ensures { result.now ≡ self.now.codes.kept }
+    {
+        self.codes.kept()
     }
 
     // Counts a call at a side, and a fault if it is to fail; then this is what it leaves.

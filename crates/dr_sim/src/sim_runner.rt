@@ -10,7 +10,7 @@ use crate::faults::{PortFault, port_fault};
 use crate::kept_codes::KeptCodes;
 use crate::meter::Meter;
 use dr_base::{Name, NoMemory};
-use dr_outside::{Runner, RunnerFail};
+use dr_outside::{Kept, Runner, RunnerFail};
 use std::alloc::Global;
 use std::marker::Model;
 
@@ -65,6 +65,14 @@ impl SimRunner {
         ensures there { tokens ≤ self.old.codes.room → IsOk result }
     {
         self.codes.take_room(tokens)
+    }
+
+    /// The commands whose codes are kept, each without a side, in the order in which they ran. It
+    /// counts as no call.
+    pub fn kept(&self) -> &[Kept]
+        ensures { result.now ≡ self.now.codes.kept }
+    {
+        self.codes.kept()
     }
 
     // One reading, told exactly.

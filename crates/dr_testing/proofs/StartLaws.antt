@@ -10,7 +10,7 @@ use Rattle.dr_outside.specs.declared.machine.Post.TheVariants.{Placeholder, Read
 use Rattle.dr_outside.specs.Arrays.{is_listed}
 use Rattle.dr_outside.specs.Machines.{PortState}
 use Rattle.dr_outside.proofs.Listed.{mono, place_of, not_yet, is_listed_more, is_listed_at}
-use Rattle.dr_model.specs.Testing.{in_bubble}
+use Rattle.dr_meaning.specs.Testing.{in_bubble}
 use Rattle.dr_testing.specs.declared.start_up.RefusedMachine.{RefusedMachine}
 use Rattle.dr_testing.specs.declared.start_up.StartFail.{StartFail}
 use Rattle.dr_testing.specs.declared.start_up.StartFail.TheVariants.{Failed, Refused}

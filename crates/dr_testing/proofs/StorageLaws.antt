@@ -17,8 +17,8 @@ use Rattle.dr_outside.specs.BySide.{at, put}
 use Rattle.dr_outside.specs.Pairs.{Frame, frame_of, is_live, is_target, target, half, Drift, Grows, Follows, Made, PairStep, Read, made, is_fit}
 use Rattle.dr_outside.specs.Arrays.{ArrayState, ArrayStep, EachStep, is_listed}
 use Rattle.dr_outside.proofs.Drifts.{Drift-trans}
-use Rattle.dr_model.specs.Opening.{IsOpeningPair, AreOpeningPairs}
-use Rattle.dr_model.specs.Testing.{DriftsButSnapshot, IsTestedPair}
+use Rattle.dr_meaning.specs.Opening.{IsOpeningPair, AreOpeningPairs}
+use Rattle.dr_meaning.specs.Testing.{DriftsButSnapshot, IsTestedPair}
 use Rattle.dr_testing.specs.Storage.{StorageStep, StorageTold, PairDone}
 
 is_from_a : (p : Pair) → IsOpeningPair A p → p.source ≡ A

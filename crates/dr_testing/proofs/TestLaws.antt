@@ -18,9 +18,9 @@ use Rattle.dr_outside.specs.declared.pair.Half.{Half}
 use Rattle.dr_outside.specs.Arrays.{ArrayState, is_listed}
 use Rattle.dr_outside.specs.declared.machine.Post.TheVariants.{Placeholder, Ready}
 use Rattle.dr_outside.specs.Machines.{PortState}
-use Rattle.dr_model.specs.Opening.{AreOpeningMachines}
-use Rattle.dr_model.specs.StartUp.{StartedInOrder, is_started}
-use Rattle.dr_model.specs.Testing.{DriftsButSnapshot}
+use Rattle.dr_meaning.specs.Opening.{AreOpeningMachines}
+use Rattle.dr_meaning.specs.StartUp.{StartedInOrder, is_started}
+use Rattle.dr_meaning.specs.Testing.{DriftsButSnapshot}
 use Rattle.dr_testing.specs.declared.start_up.StartEnd.{StartEnd}
 use Rattle.dr_testing.specs.declared.start_up.StartEnd.TheVariants.{Done as AllDone, Failed, Refused}
 use Rattle.dr_testing.specs.Placing.{wanted_place, wanted_at, wave_of, is_planned}

@@ -11,7 +11,7 @@ use Rattle.dr_plan.specs.declared.plan.Wave.{Wave}
 use Rattle.dr_outside.specs.declared.machine.Post.TheVariants.{Placeholder, Ready}
 use Rattle.dr_outside.specs.Arrays.{is_listed}
 use Rattle.dr_outside.specs.Machines.{PortState}
-use Rattle.dr_model.specs.Testing.{in_bubble}
+use Rattle.dr_meaning.specs.Testing.{in_bubble}
 use Rattle.dr_testing.specs.declared.start_up.RefusedMachine.{RefusedMachine}
 use Rattle.dr_testing.specs.declared.start_up.StartEnd.TheVariants.{Failed, Refused}
 use Rattle.dr_testing.specs.Placing.{wave_of, AreStartable}

@@ -11,7 +11,7 @@ use Rattle.dr_plan.specs.declared.plan.Plan.{Plan}
 use Rattle.dr_plan.specs.declared.plan.Wave.{Wave}
 use Rattle.dr_outside.specs.declared.machine.Placed.{Placed}
 use Rattle.dr_outside.specs.Arrays.{is_listed}
-use Rattle.dr_model.specs.Testing.{in_bubble}
+use Rattle.dr_meaning.specs.Testing.{in_bubble}
 
 -- what stands in for a placement where there is none
 abbrev pub nowhere : Placement

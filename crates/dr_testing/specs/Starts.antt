@@ -10,8 +10,8 @@ use Rattle.dr_outside.specs.declared.machine.Post.{Post}
 use Rattle.dr_outside.specs.declared.machine.Post.TheVariants.{Placeholder, Off, On, Ready}
 use Rattle.dr_outside.specs.Arrays.{is_listed}
 use Rattle.dr_outside.specs.Machines.{PortState}
-use Rattle.dr_model.specs.Codes.{post_code, told_by_refusal}
-use Rattle.dr_model.specs.Testing.{in_bubble}
+use Rattle.dr_meaning.specs.Codes.{post_code, told_by_refusal}
+use Rattle.dr_meaning.specs.Testing.{in_bubble}
 use Rattle.dr_testing.specs.declared.start_up.RefusedMachine.{RefusedMachine}
 use Rattle.dr_testing.specs.declared.start_up.StartFail.{StartFail}
 use Rattle.dr_testing.specs.declared.start_up.StartFail.TheVariants.{Failed, Refused}

@@ -7,7 +7,7 @@ use Rattle.dr_outside.specs.declared.array.ArrayFail.{ArrayFail}
 use Rattle.dr_outside.specs.declared.array.ArrayFail.TheVariants.{Failed, Wrong}
 use Rattle.dr_outside.specs.Pairs.{Drift, half, target, is_fit}
 use Rattle.dr_outside.specs.Arrays.{ArrayState, is_listed}
-use Rattle.dr_model.specs.Testing.{IsTestedPair}
+use Rattle.dr_meaning.specs.Testing.{IsTestedPair}
 
 -- one pair after a test's storage is done: with its snapshot where it is listed, and drifted alone where it isn't
 abbrev pub PairDone : ℕ → Bool → Pair → Pair → Type 0

@@ -21,10 +21,10 @@ use Rattle.dr_outside.specs.declared.array.ArrayCall.TheVariants.{TestStart}
 use Rattle.dr_outside.specs.Pairs.{Drift, half, target, is_fit}
 use Rattle.dr_outside.specs.Arrays.{ArrayState, IsPairList, is_listed}
 use Rattle.dr_outside.specs.Machines.{PortState, machine_at}
-use Rattle.dr_model.specs.Codes.{bit, half_code, told_by_refusal}
-use Rattle.dr_model.specs.Opening.{AreOpeningPairs, AreOpeningMachines}
-use Rattle.dr_model.specs.StartUp.{StartedInOrder}
-use Rattle.dr_model.specs.Testing.{DriftsButSnapshot, IsTestedPair, IsTestedMachine}
+use Rattle.dr_meaning.specs.Codes.{bit, half_code, told_by_refusal}
+use Rattle.dr_meaning.specs.Opening.{AreOpeningPairs, AreOpeningMachines}
+use Rattle.dr_meaning.specs.StartUp.{StartedInOrder}
+use Rattle.dr_meaning.specs.Testing.{DriftsButSnapshot, IsTestedPair, IsTestedMachine}
 use Rattle.dr_testing.specs.declared.start_up.StartEnd.{StartEnd}
 use Rattle.dr_testing.specs.declared.start_up.StartEnd.TheVariants.{Done as EndDone, Failed as EndFailed, Refused as EndRefused}
 use Rattle.dr_testing.specs.Storage.{AreFit}

@@ -4,15 +4,15 @@ ghost use Rattle.dr_inventory.specs.Sound.{IsSound};
 ghost use Rattle.dr_outside.specs.declared.machine.Post.TheVariants.{Placeholder};
 ghost use Rattle.dr_outside.specs.Arrays.{is_listed};
 ghost use Rattle.dr_outside.specs.Machines.{machine_at};
-ghost use Rattle.dr_model.specs.Codes.{post_code, told_by_refusal};
-ghost use Rattle.dr_model.specs.Testing.{in_bubble};
+ghost use Rattle.dr_meaning.specs.Codes.{post_code, told_by_refusal};
+ghost use Rattle.dr_meaning.specs.Testing.{in_bubble};
 ghost use Rattle.dr_testing.specs.Placing.{wanted_place, wanted_at, wave_of, IsPlaced, IsStartable, AreStartable};
 ghost use Rattle.dr_testing.specs.Starts.{NoneFalls, ChangesAtB, StartStep, StartCause, StartTold, WaveStep, EachPlaceholder, WerePlaceholders, IsFailedMachine, IsRefusedMachine, IsToldMachine, is_before, failed_after, refused_after, AllCause, AllStep, AllTold, AllPlaceholders};
 
 use dr_base::{Placement, Side};
 use dr_inventory::Estate;
 use dr_mappings::place;
-use dr_model::post_code;
+use dr_meaning::post_code;
 use dr_outside::{Placed, Port, PortFail, Post};
 use dr_plan::Wave;
 

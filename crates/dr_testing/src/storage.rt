@@ -1,7 +1,7 @@
 ghost use Rattle.std.specs.Prelude.{◌≡◌, length};
 ghost use Rattle.dr_base.specs.declared.side.Side.TheVariants.{A as SideA};
 ghost use Rattle.dr_outside.specs.Arrays.{IsPairList, ArrayCause, NamesListed};
-ghost use Rattle.dr_model.specs.Opening.{AreOpeningPairs};
+ghost use Rattle.dr_meaning.specs.Opening.{AreOpeningPairs};
 ghost use Rattle.dr_testing.specs.Storage.{StorageStep, StorageTold};
 
 use dr_outside::{Array, ArrayFail};

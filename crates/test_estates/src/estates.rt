@@ -35,6 +35,13 @@ datastore = [
 ]
 "#;
 
+/// A group without machines, and a plan of it.
+pub const NO_MACHINES: &str = r#"form = 1
+datastore = [{name="ds1", devices=["v-ds1"]}]
+group = [{name="g1", protects="A", datastores=["ds1"]}]
+plan = [{name="p", groups=["g1"]}]
+"#;
+
 /// The name that a text spells.
 pub fn name(rt: &impl Abort, text: &str) -> Name {
     Name::read(text.as_bytes()).expect(rt, "a name")

@@ -2,6 +2,8 @@
 #![tactic(auto)]
 
 #[cfg(test)]
+mod declared;
+#[cfg(test)]
 mod estates;
 #[cfg(test)]
 mod groups;
@@ -12,6 +14,6 @@ mod mappings;
 #[cfg(test)]
 mod plan;
 #[cfg(test)]
-mod report;
+mod preview;
 #[cfg(test)]
-mod setting;
+mod report;

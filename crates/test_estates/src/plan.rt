@@ -2,7 +2,7 @@
 
 ghost use Rattle.std.specs.Prelude.{◌≤◌};
 
-use crate::estates::{add_datastores, add_group, add_machine, begin, estate_of, name};
+use crate::estates::{NO_MACHINES, add_datastores, add_group, add_machine, begin, estate_of, name};
 use dr_base::{Callout, Name, Rows};
 use dr_groups::members;
 use dr_plan::{Plan, PlanFault, PlanMachine, Wave, read_plan, waves};
@@ -132,18 +132,36 @@ fn machines_start_in_waves_by_priority_and_depth(rt: HostRuntime) {
     assert!(rt; has_waves(&rt, rt.alloc(), &plan, &rows));
 }
 
-// A group without machines, and a plan of it.
-const NO_MACHINES: &str = r#"form = 1
-datastore = [{name="ds1", devices=["v-ds1"]}]
-group = [{name="g1", protects="A", datastores=["ds1"]}]
-plan = [{name="p", groups=["g1"]}]
-"#;
-
 #[test]
 fn a_plan_without_machines_has_no_waves(rt: HostRuntime) {
     let plan = plan_of(&rt, rt.alloc(), NO_MACHINES, "").expect(&rt, "a plan");
     assert!(rt; plan.wave_count == 0);
     assert!(rt; has_waves(&rt, rt.alloc(), &plan, &[]));
+}
+
+// A row of the first group with so many steps, each a command before the priority 3.
+fn steps_row(rt: &impl Abort, alloc: Global, count: u32) -> String {
+    let mut row = "groups = ['g1']\n".to_string(alloc).expect(rt, "memory");
+    for _ in 0..count {
+        row.push_str("[[plan.step]]\nbefore = 3\ncommand = \"ring\"\n")
+            .expect(rt, "memory");
+    }
+    row
+}
+
+// Whether a plan has so many of these steps, and no others.
+fn has_steps(plan: &Plan, count: usize, command: Name) -> bool {
+    let steps = plan.steps.as_slice();
+    steps.len() == count
+        && steps.iter().all(|step| step.before == 3 && step.what == Callout::Command(command))
+}
+
+// As many as a plan may have.
+#[test]
+fn a_plan_of_64_steps_has_them(rt: HostRuntime) {
+    let row = steps_row(&rt, rt.alloc(), 64);
+    let plan = plan_of(&rt, rt.alloc(), LETTERS, row.as_str()).expect(&rt, "a plan");
+    assert!(rt; has_steps(&plan, 64, name(&rt, "ring")));
 }
 
 // What is told of a plan: its fault, with names as texts, or nothing.

@@ -198,32 +198,32 @@ fn append_both(alloc: Global, disk: &mut MemDisk) -> Result<(), JournalFault> {
 }
 
 // Whether an opening and two appends, stopped after so many calls of the disk, leave these counts of
-// records. All of it is 13 calls.
+// records. All of it is 12 calls.
 fn stops_with(alloc: Global, calls: u64, counts: [u32; 3]) -> bool {
     match disk_of(alloc, b"", LIMIT, Some(calls)) {
         Some(mut disk) => {
-            append_both(alloc, &mut disk).is_ok() == (calls == 13)
+            append_both(alloc, &mut disk).is_ok() == (calls == 12)
                 && images_hold(alloc, &disk, counts)
         }
         None => false,
     }
 }
 
-// The opening makes 5 calls of the disk and each append 4. An image is what the disk reads, what
+// The opening makes 4 calls of the disk and each append 4. An image is what the disk reads, what
 // the last sync kept, and what it reads with 0xA5 for each byte written since.
 #[test]
 fn a_stopped_append_leaves_the_records_before_or_the_new_one_too(rt: HostRuntime) {
     let alloc = rt.alloc();
     for (calls, counts) in [
+        (4, [0, 0, 0]),
         (5, [0, 0, 0]),
         (6, [0, 0, 0]),
-        (7, [0, 0, 0]),
-        (8, [1, 0, 1]),
+        (7, [1, 0, 1]),
+        (8, [1, 1, 1]),
         (9, [1, 1, 1]),
         (10, [1, 1, 1]),
-        (11, [1, 1, 1]),
-        (12, [2, 1, 2]),
-        (13, [2, 2, 2]),
+        (11, [2, 1, 2]),
+        (12, [2, 2, 2]),
     ] {
         assert!(rt; stops_with(alloc, calls, counts), "after {calls}");
     }

@@ -6,6 +6,12 @@ mod disk;
 #[cfg(test)]
 mod journal;
 #[cfg(test)]
+mod reader;
+#[cfg(test)]
 mod records;
 #[cfg(test)]
 mod samples;
+#[cfg(test)]
+mod syncs;
+#[cfg(test)]
+mod watched;

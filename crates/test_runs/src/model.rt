@@ -1,11 +1,11 @@
 //! The stages of a plan's operations, and the room that their runs need in the journal.
 
 ghost use Rattle.std.specs.Prelude.{IsTrue};
-ghost use Rattle.dr_model.specs.Need.{HasShortLists};
+ghost use Rattle.dr_meaning.specs.Need.{HasShortLists};
 
 use crate::setup::{machine, name, none, numbers, small_plan};
 use dr_base::{Callout, Op, Rows, Text};
-use dr_model::{Stage, StageKind, need, stages};
+use dr_meaning::{Stage, StageKind, need, stages};
 use dr_plan::{Plan, PlanMachine, Step};
 use std::alloc::Global;
 use std::process::Abort;

@@ -7,43 +7,13 @@ use dr_inventory::{Estate, read_estate};
 use dr_plan::{Plan, PlanMachine, Step};
 use std::alloc::Global;
 use std::process::Abort;
-
-// Two groups that A protects. Each has one pair, and the first has a machine.
-const ESTATE: &str = r#"form = 1
-map = [
-{kind="network", side="B", from="lan", to="lan-b"},
-{kind="folder", side="B", from="prod", to="dr"},
-{kind="pool", side="B", from="gold", to="gold-b"},
-{kind="test", side="B", from="lan-b", to="bubble-b"},
-{kind="test", side="A", from="lan", to="bubble-a"},
-]
-[[machine]]
-name = "db"
-network = "lan"
-folder = "prod/sql"
-pool = "gold"
-datastores = ["ds1"]
-[[datastore]]
-name = "ds1"
-devices = ["d1"]
-[[datastore]]
-name = "ds2"
-devices = ["d2"]
-[[group]]
-name = "g1"
-protects = "A"
-datastores = ["ds1"]
-[[group]]
-name = "g2"
-protects = "A"
-datastores = ["ds2"]
-"#;
+use test_samples::TWO_GROUPS;
 
 /// The estate of two groups.
 pub fn estate(rt: &impl Abort, alloc: Global) -> Estate
     ensures { IsSound result }
 {
-    read_estate(alloc, ESTATE.as_bytes()).expect(rt, "an estate")
+    read_estate(alloc, TWO_GROUPS.as_bytes()).expect(rt, "an estate")
 }
 
 /// The name that this text spells.

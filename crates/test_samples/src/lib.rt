@@ -1,6 +1,11 @@
-//! Two estates that the tests of several crates and the examples share.
+//! Estates that tests share: two that the examples show too, and others.
 #![tactic(auto)]
 
+mod estates;
 mod samples;
 
+pub use estates::{
+    CROSSED_GROUPS, LINKED, NOT_CLOSED, OTHER_GROUP, PROTECTS_B, ROUND, SHARING_GROUPS, THREE,
+    TWO_GROUPS, UNMAPPED, WAVES,
+};
 pub use samples::{LARGE, SMALL};

@@ -12,7 +12,7 @@ use test_samples::SMALL;
 
 /// What a call of the desk is made on. Failing calls count from 1.
 #[derive(Clone, Copy)]
-pub(super) struct Setting<'a> {
+pub(super) struct SetUp<'a> {
     /// The words, with spaces between them.
     pub(super) words: &'a str,
     /// The input, in parts that follow one another.
@@ -38,7 +38,7 @@ pub(super) const SMALL_SITE: Outside<'static> = Outside {
 };
 
 /// A test of the small estate, of web after db on one pair.
-pub(super) const FIRST: Setting<'static> = Setting {
+pub(super) const FIRST: SetUp<'static> = SetUp {
     words: "test p1 t1",
     input: &[SMALL],
     places: &[RECOVERY; 4],
@@ -112,14 +112,14 @@ pub(super) struct Streams {
     pub(super) sink: MemSink,
 }
 
-/// The streams of a setting.
-pub(super) fn make_streams(alloc: Global, setting: &Setting) -> Result<Streams, NoMemory> {
-    let input = joined(alloc, setting.input)?;
-    let read_fails = copied(alloc, setting.read_fails)?;
-    let write_fails = copied(alloc, setting.write_fails)?;
+/// The streams of a set-up.
+pub(super) fn make_streams(alloc: Global, set_up: &SetUp) -> Result<Streams, NoMemory> {
+    let input = joined(alloc, set_up.input)?;
+    let read_fails = copied(alloc, set_up.read_fails)?;
+    let write_fails = copied(alloc, set_up.write_fails)?;
     Ok(Streams {
         source: MemSource::new(input, read_fails),
-        sink: MemSink::new(alloc, setting.room, write_fails)?,
+        sink: MemSink::new(alloc, set_up.room, write_fails)?,
     })
 }
 
@@ -146,15 +146,15 @@ pub(super) fn has_answered(
 pub(super) fn answers<A: Array, P: Port>(
     rt: &impl Abort,
     alloc: Global,
-    setting: &Setting,
+    set_up: &SetUp,
     array: &mut A,
     ports: &mut Vec<P>,
     status: u8,
     text: &str,
 ) {
-    let mut streams = make_streams(alloc, setting).expect(rt, "memory");
+    let mut streams = make_streams(alloc, set_up).expect(rt, "memory");
     let (source, sink) = (&mut streams.source, &mut streams.sink);
-    let ended = call(alloc, setting.words, array, ports, source, sink);
+    let ended = call(alloc, set_up.words, array, ports, source, sink);
     has_answered(rt, ended, streams.sink.bytes(), status, text);
 }
 
@@ -163,30 +163,30 @@ pub(super) fn ends_on(
     rt: &impl Abort,
     alloc: Global,
     site: &mut Site,
-    setting: &Setting,
+    set_up: &SetUp,
     outcome: &Outcome,
 ) {
     let (array, ports) = (&mut site.array, &mut site.ports);
     answers(
         rt,
         alloc,
-        setting,
+        set_up,
         array,
         ports,
         outcome.status,
         outcome.text,
     );
-    site_is(rt, site, setting, outcome);
+    site_is(rt, site, set_up, outcome);
 }
 
-/// A call on this setting's own site has this outcome.
-pub(super) fn ends(rt: &impl Abort, alloc: Global, setting: &Setting, outcome: &Outcome) {
-    let mut site = make_site(alloc, &setting.outside).expect(rt, "memory");
-    ends_on(rt, alloc, &mut site, setting, outcome);
+/// A call on this set-up's own site has this outcome.
+pub(super) fn ends(rt: &impl Abort, alloc: Global, set_up: &SetUp, outcome: &Outcome) {
+    let mut site = make_site(alloc, &set_up.outside).expect(rt, "memory");
+    ends_on(rt, alloc, &mut site, set_up, outcome);
 }
 
-/// The pairs and machines stand as they have to after a call on this setting.
-pub(super) fn site_is(rt: &impl Abort, site: &mut Site, setting: &Setting, outcome: &Outcome) {
+/// The pairs and machines stand as they have to after a call on this set-up.
+pub(super) fn site_is(rt: &impl Abort, site: &mut Site, set_up: &SetUp, outcome: &Outcome) {
     pairs_are(rt, &mut site.array, outcome.pairs);
-    machines_are(rt, &mut site.ports, setting.places, outcome.machines);
+    machines_are(rt, &mut site.ports, set_up.places, outcome.machines);
 }

@@ -1,28 +1,28 @@
 //! Calls of the array, of machines, of the source and of the sink that fail.
 
-use super::calls::{DONE, FIRST, Outcome, SMALL_SITE, Setting, UNTOUCHED, ends};
-use super::estates::{THREE, WAVES_SITE, WAVES_TEST};
+use super::calls::{DONE, FIRST, Outcome, SMALL_SITE, SetUp, UNTOUCHED, ends};
+use super::estates::{WAVES_SITE, WAVES_TEST};
 use crate::site::{Outside, Replica, Stand};
 use dr_base::Side;
 use std::alloc::Global;
 use std::process::Abort;
-use test_samples::SMALL;
+use test_samples::{SMALL, THREE};
 
 const PLACEHOLDER: Stand = Stand::Placeholder;
 
-// A test on this setting, where these calls of machines fail, ends with this text, and with the
+// A test on this set-up, where these calls of machines fail, ends with this text, and with the
 // machines so. The first pair has its snapshot, and no other.
 fn ends_faulty<'a>(
     rt: &impl Abort,
     alloc: Global,
-    setting: &Setting<'a>,
+    set_up: &SetUp<'a>,
     port_fails: &'a [(usize, u64)],
     text: &'a str,
     machines: &'a [Stand],
 ) {
     let outside = Outside {
         port_fails,
-        ..setting.outside
+        ..set_up.outside
     };
     let outcome = Outcome {
         status: 6,
@@ -30,15 +30,7 @@ fn ends_faulty<'a>(
         pairs: &[Replica::Tested, Replica::Behind],
         machines,
     };
-    ends(
-        rt,
-        alloc,
-        &Setting {
-            outside,
-            ..*setting
-        },
-        &outcome,
-    );
+    ends(rt, alloc, &SetUp { outside, ..*set_up }, &outcome);
 }
 
 #[test]
@@ -58,7 +50,7 @@ fn no_later_wave_starts_after_a_failed_start(rt: HostRuntime) {
 #[test]
 fn each_machine_of_a_wave_is_tried_and_the_least_failed_is_named(rt: HostRuntime) {
     // A test of db and web in one wave, which mail waits for.
-    let waited_for = Setting {
+    let waited_for = SetUp {
         words: "test p2 t1",
         input: &[SMALL, THREE],
         outside: WAVES_SITE,
@@ -80,7 +72,7 @@ fn each_machine_of_a_wave_is_tried_and_the_least_failed_is_named(rt: HostRuntime
     let web = "6 port fault web\n";
     ends_faulty(&rt, rt.alloc(), &waited_for, &[(1, 2)], web, &machines);
     // A test of all three in one wave.
-    let all_at_once = Setting {
+    let all_at_once = SetUp {
         words: "test p3 t1",
         ..waited_for
     };
@@ -103,7 +95,7 @@ fn a_failed_array_call_ends_the_test_before_any_machine(rt: HostRuntime) {
         ((1, Side::A), "5 array fault A\n", Replica::Behind),
         ((2, Side::B), "5 array fault B\n", Replica::Level),
     ] {
-        let setting = Setting {
+        let set_up = SetUp {
             outside: Outside {
                 array_fails: &[fail],
                 ..SMALL_SITE
@@ -116,7 +108,7 @@ fn a_failed_array_call_ends_the_test_before_any_machine(rt: HostRuntime) {
             pairs: &[pair],
             ..UNTOUCHED
         };
-        ends(&rt, rt.alloc(), &setting, &outcome);
+        ends(&rt, rt.alloc(), &set_up, &outcome);
     }
 }
 
@@ -126,13 +118,13 @@ fn a_snapshot_does_not_fail_at_the_source(rt: HostRuntime) {
         array_fails: &[(2, Side::A)],
         ..SMALL_SITE
     };
-    ends(&rt, rt.alloc(), &Setting { outside, ..FIRST }, &DONE);
+    ends(&rt, rt.alloc(), &SetUp { outside, ..FIRST }, &DONE);
 }
 
 #[test]
 fn nothing_is_called_after_a_failed_read(rt: HostRuntime) {
     for call in [1, 2] {
-        let setting = Setting {
+        let set_up = SetUp {
             read_fails: &[call],
             ..FIRST
         };
@@ -141,13 +133,13 @@ fn nothing_is_called_after_a_failed_read(rt: HostRuntime) {
             text: "9 read fault\n",
             ..UNTOUCHED
         };
-        ends(&rt, rt.alloc(), &setting, &outcome);
+        ends(&rt, rt.alloc(), &set_up, &outcome);
     }
 }
 
 #[test]
 fn nothing_is_written_after_a_failed_write(rt: HostRuntime) {
-    let failing = Setting {
+    let failing = SetUp {
         write_fails: &[1],
         ..FIRST
     };
@@ -157,13 +149,13 @@ fn nothing_is_written_after_a_failed_write(rt: HostRuntime) {
         ..DONE
     };
     ends(&rt, rt.alloc(), &failing, &silent);
-    let short = Setting { room: 4, ..FIRST };
+    let short = SetUp { room: 4, ..FIRST };
     let cut = Outcome {
         text: "0 do",
         ..silent
     };
     ends(&rt, rt.alloc(), &short, &cut);
-    let both = Setting {
+    let both = SetUp {
         read_fails: &[1],
         ..failing
     };

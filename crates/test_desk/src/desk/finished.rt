@@ -1,10 +1,10 @@
 //! Tests that are done.
 
-use super::calls::{DONE, FIRST, Outcome, RECOVERY, SMALL_SITE, Setting, ends};
-use super::estates::{OTHER_GROUP, WAVES_SITE, WAVES_TEST};
+use super::calls::{DONE, FIRST, Outcome, RECOVERY, SMALL_SITE, SetUp, ends};
+use super::estates::{WAVES_SITE, WAVES_TEST};
 use crate::site::{Outside, Replica, Stand};
 use dr_base::Side;
-use test_samples::{LARGE, SMALL};
+use test_samples::{LARGE, OTHER_GROUP, SMALL};
 
 #[test]
 fn a_test_leaves_a_snapshot_and_ready_machines(rt: HostRuntime) {
@@ -28,12 +28,12 @@ fn pairs_and_machines_beyond_the_estate_are_untouched(rt: HostRuntime) {
         ],
         ..DONE
     };
-    ends(&rt, rt.alloc(), &Setting { outside, ..FIRST }, &outcome);
+    ends(&rt, rt.alloc(), &SetUp { outside, ..FIRST }, &outcome);
 }
 
 #[test]
 fn a_test_leaves_other_plans_as_they_were(rt: HostRuntime) {
-    let setting = Setting {
+    let set_up = SetUp {
         words: "test p2 t1",
         input: &[SMALL, OTHER_GROUP],
         outside: Outside {
@@ -48,7 +48,7 @@ fn a_test_leaves_other_plans_as_they_were(rt: HostRuntime) {
         machines: &[Stand::Placeholder, Stand::Placeholder, Stand::Ready],
         ..DONE
     };
-    ends(&rt, rt.alloc(), &setting, &outcome);
+    ends(&rt, rt.alloc(), &set_up, &outcome);
 }
 
 #[test]
@@ -65,11 +65,11 @@ fn pairs_are_replicated_once_and_machines_started_once_each_at_its_own_place(rt:
         ..DONE
     };
     for outside in [WAVES_SITE, outside] {
-        let setting = Setting {
+        let set_up = SetUp {
             outside,
             ..WAVES_TEST
         };
-        ends(&rt, rt.alloc(), &setting, &outcome);
+        ends(&rt, rt.alloc(), &set_up, &outcome);
     }
 }
 
@@ -77,7 +77,7 @@ fn pairs_are_replicated_once_and_machines_started_once_each_at_its_own_place(rt:
 fn forty_machines_of_five_priorities_start(rt: HostRuntime) {
     // Without the plan's custom steps, which are the last tables.
     let (input, _) = LARGE.split_once("[[plan.step]]").expect(&rt, "steps");
-    let setting = Setting {
+    let set_up = SetUp {
         words: "test all t1",
         input: &[input],
         places: &[RECOVERY; 40],
@@ -93,5 +93,5 @@ fn forty_machines_of_five_priorities_start(rt: HostRuntime) {
         machines: &[Stand::Ready; 40],
         ..DONE
     };
-    ends(&rt, rt.alloc(), &setting, &outcome);
+    ends(&rt, rt.alloc(), &set_up, &outcome);
 }

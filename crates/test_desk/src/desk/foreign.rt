@@ -1,6 +1,6 @@
 //! What a test left is foreign to the next one.
 
-use super::calls::{DONE, FIRST, Outcome, SMALL_SITE, Setting, ends_on};
+use super::calls::{DONE, FIRST, Outcome, SMALL_SITE, SetUp, ends_on};
 use super::estates::changed;
 use crate::site::{Outside, Replica, Stand, make_site};
 use std::process::Abort;
@@ -31,7 +31,7 @@ fn what_a_test_left_is_foreign_to_the_next(rt: HostRuntime) {
         "[[datastore]]",
         "[[datastore]]\nname = \"ds0\"\ndevices = [\"d0\"]\n[[datastore]]",
     );
-    let setting = Setting {
+    let set_up = SetUp {
         input: &input,
         ..FIRST
     };
@@ -41,5 +41,5 @@ fn what_a_test_left_is_foreign_to_the_next(rt: HostRuntime) {
         pairs: &[Replica::Tested, Replica::Tested],
         machines: &[Stand::Ready; 2],
     };
-    ends_on(&rt, rt.alloc(), &mut site, &setting, &machine);
+    ends_on(&rt, rt.alloc(), &mut site, &set_up, &machine);
 }

@@ -1,24 +1,25 @@
 //! Bad words, faulty estates, and what else is refused with nothing called.
 
-use super::calls::{FIRST, Outcome, SMALL_SITE, Setting, UNTOUCHED, ends};
+use super::calls::{FIRST, Outcome, SMALL_SITE, SetUp, UNTOUCHED, ends};
 use super::estates::{WAVES_TEST, changed};
 use crate::site::{Outside, Replica, Stand};
 use std::alloc::Global;
 use std::process::Abort;
+use test_samples::{NOT_CLOSED, PROTECTS_B, ROUND};
 
-// A call on this setting, with the small site, is refused with nothing called.
-fn is_refused(rt: &impl Abort, alloc: Global, setting: &Setting, status: u8, text: &str) {
+// A call on this set-up, with the small site, is refused with nothing called.
+fn is_refused(rt: &impl Abort, alloc: Global, set_up: &SetUp, status: u8, text: &str) {
     let outcome = Outcome {
         status,
         text,
         ..UNTOUCHED
     };
-    ends(rt, alloc, setting, &outcome);
+    ends(rt, alloc, set_up, &outcome);
 }
 
 // A test of this estate is refused with nothing called.
 fn is_faulty(rt: &impl Abort, alloc: Global, input: &[&str], text: &str) {
-    is_refused(rt, alloc, &Setting { input, ..FIRST }, 2, text);
+    is_refused(rt, alloc, &SetUp { input, ..FIRST }, 2, text);
 }
 
 // Words, and the text.
@@ -38,9 +39,9 @@ const BAD_WORDS: [[&str; 2]; 10] = [
 #[test]
 fn bad_words_are_told_by_their_place(rt: HostRuntime) {
     for [words, text] in &BAD_WORDS {
-        is_refused(&rt, rt.alloc(), &Setting { words, ..FIRST }, 1, text);
+        is_refused(&rt, rt.alloc(), &SetUp { words, ..FIRST }, 1, text);
     }
-    let unread = Setting {
+    let unread = SetUp {
         words: "test p1",
         read_fails: &[1],
         ..FIRST
@@ -99,74 +100,6 @@ fn a_faulty_estate_is_refused_by_its_first_fault(rt: HostRuntime) {
     is_faulty(&rt, rt.alloc(), &["a ="], "2 E1 not toml\n");
 }
 
-// The three machines of a plan, each after the next, and the first after the last.
-const ROUND: &str = r#"form = 1
-[[machine]]
-name = "a"
-network = "lan"
-folder = "prod"
-pool = "gold"
-datastores = ["ds1"]
-[[machine]]
-name = "b"
-network = "lan"
-folder = "prod"
-pool = "gold"
-datastores = ["ds1"]
-[[machine]]
-name = "c"
-network = "lan"
-folder = "prod"
-pool = "gold"
-datastores = ["ds1"]
-[[datastore]]
-name = "ds1"
-devices = ["d1"]
-[[group]]
-name = "g1"
-protects = "A"
-datastores = ["ds1"]
-[[plan]]
-name = "p1"
-groups = ["g1"]
-[[plan.machine]]
-name = "a"
-after = ["b"]
-[[plan.machine]]
-name = "b"
-after = ["c"]
-[[plan.machine]]
-name = "c"
-after = ["a"]
-"#;
-
-// A machine joins the first two of three datastores, a consistency group the last two, and the
-// protection group holds the first two alone.
-const NOT_CLOSED: &str = r#"form = 1
-[[machine]]
-name = "db"
-network = "lan"
-folder = "prod"
-pool = "gold"
-datastores = ["ds1", "ds2"]
-[[datastore]]
-name = "ds1"
-devices = ["d1"]
-[[datastore]]
-name = "ds2"
-devices = ["d2"]
-[[datastore]]
-name = "ds3"
-devices = ["d3"]
-[[consistency]]
-name = "c1"
-devices = ["d2", "d3"]
-[[group]]
-name = "g1"
-protects = "A"
-datastores = ["ds1", "ds2"]
-"#;
-
 #[test]
 fn a_plan_that_goes_round_and_a_group_that_splits_are_told(rt: HostRuntime) {
     is_faulty(&rt, rt.alloc(), &[ROUND], "2 P6 cycle p1 a b c\n");
@@ -202,33 +135,6 @@ fn a_machine_has_at_most_16_datastores(rt: HostRuntime) {
     );
 }
 
-// One machine, on a group that protects B.
-const PROTECTS_B: &str = r#"form = 1
-map = [
-{kind="network", side="A", from="lan", to="lan-a"},
-{kind="folder", side="A", from="prod", to="dr"},
-{kind="pool", side="A", from="gold", to="gold-a"},
-{kind="test", side="A", from="lan-a", to="bubble-a"},
-{kind="test", side="B", from="lan", to="bubble-b"},
-]
-[[machine]]
-name = "db"
-network = "lan"
-folder = "prod"
-pool = "gold"
-datastores = ["ds1"]
-[[datastore]]
-name = "ds1"
-devices = ["d1"]
-[[group]]
-name = "g1"
-protects = "B"
-datastores = ["ds1"]
-[[plan]]
-name = "p1"
-groups = ["g1"]
-"#;
-
 // The small site, without pairs.
 const NO_PAIRS: Outside<'static> = Outside {
     pairs: 0,
@@ -244,7 +150,7 @@ const UNPAIRED: Outcome<'static> = Outcome {
 
 #[test]
 fn an_unknown_plan_comes_before_want_of_a_slot(rt: HostRuntime) {
-    let setting = Setting {
+    let set_up = SetUp {
         words: "test p9 t1",
         outside: NO_PAIRS,
         ..FIRST
@@ -253,12 +159,12 @@ fn an_unknown_plan_comes_before_want_of_a_slot(rt: HostRuntime) {
         text: "2 N2 unknown plan p9\n",
         ..UNPAIRED
     };
-    ends(&rt, rt.alloc(), &setting, &outcome);
+    ends(&rt, rt.alloc(), &set_up, &outcome);
 }
 
 // A test of a plan of this estate is refused, before the want of a slot.
 fn is_not_built(rt: &impl Abort, alloc: Global, input: &[&str]) {
-    let setting = Setting {
+    let set_up = SetUp {
         input,
         outside: NO_PAIRS,
         ..FIRST
@@ -267,7 +173,7 @@ fn is_not_built(rt: &impl Abort, alloc: Global, input: &[&str]) {
         text: "2 N13 not built p1\n",
         ..UNPAIRED
     };
-    ends(rt, alloc, &setting, &outcome);
+    ends(rt, alloc, &set_up, &outcome);
 }
 
 #[test]
@@ -291,7 +197,7 @@ fn a_plan_that_is_not_built_comes_before_want_of_a_slot(rt: HostRuntime) {
 fn lacks_a_slot(
     rt: &impl Abort,
     alloc: Global,
-    setting: &Setting,
+    set_up: &SetUp,
     pairs: u32,
     ports: usize,
     text: &str,
@@ -308,15 +214,7 @@ fn lacks_a_slot(
         pairs: &[Replica::Behind; 2][..pairs as usize],
         machines: &[Stand::Placeholder; 4][..ports],
     };
-    ends(
-        rt,
-        alloc,
-        &Setting {
-            outside,
-            ..*setting
-        },
-        &outcome,
-    );
+    ends(rt, alloc, &SetUp { outside, ..*set_up }, &outcome);
 }
 
 #[test]

@@ -1,20 +1,20 @@
 //! Reports, which call nothing.
 
-use super::calls::{FIRST, Outcome, SMALL_SITE, Setting, UNTOUCHED, ends};
+use super::calls::{FIRST, Outcome, SMALL_SITE, SetUp, UNTOUCHED, ends};
 use crate::site::Outside;
 use std::alloc::Global;
 use std::process::Abort;
-use test_samples::{LARGE, SMALL};
+use test_samples::{LARGE, LINKED, SMALL};
 
 // A report of this estate is shown, with nothing called.
 fn is_shown<'a>(rt: &impl Abort, alloc: Global, words: &'a str, input: &'a [&'a str], text: &str) {
-    let setting = Setting {
+    let set_up = SetUp {
         words,
         input,
         ..FIRST
     };
     let outcome = Outcome { text, ..UNTOUCHED };
-    ends(rt, alloc, &setting, &outcome);
+    ends(rt, alloc, &set_up, &outcome);
 }
 
 #[test]
@@ -45,7 +45,7 @@ priority 5 depth 0 batch-1 batch-2 batch-3 batch-4 batch-5 batch-6 batch-7 batch
 
 #[test]
 fn a_preview_needs_no_slots_and_its_plan(rt: HostRuntime) {
-    let setting = Setting {
+    let set_up = SetUp {
         words: "preview p9",
         outside: Outside {
             ports: 0,
@@ -59,42 +59,8 @@ fn a_preview_needs_no_slots_and_its_plan(rt: HostRuntime) {
         machines: &[],
         ..UNTOUCHED
     };
-    ends(&rt, rt.alloc(), &setting, &outcome);
+    ends(&rt, rt.alloc(), &set_up, &outcome);
 }
-
-// Three datastores with one device each; a machine joins the first two, a consistency group the last
-// two.
-const LINKED: &str = r#"form = 1
-map = [
-{kind="network", side="B", from="lan", to="lan-b"},
-{kind="folder", side="B", from="prod", to="dr"},
-{kind="pool", side="B", from="gold", to="gold-b"},
-{kind="test", side="B", from="lan-b", to="bubble-b"},
-{kind="test", side="A", from="lan", to="bubble-a"},
-]
-[[machine]]
-name = "db"
-network = "lan"
-folder = "prod"
-pool = "gold"
-datastores = ["ds1", "ds2"]
-[[datastore]]
-name = "ds1"
-devices = ["d1"]
-[[datastore]]
-name = "ds2"
-devices = ["d2"]
-[[datastore]]
-name = "ds3"
-devices = ["d3"]
-[[consistency]]
-name = "c1"
-devices = ["d2", "d3"]
-[[group]]
-name = "g1"
-protects = "A"
-datastores = ["ds1", "ds2", "ds3"]
-"#;
 
 #[test]
 fn groups_shows_each_datastore_with_its_datastore_group(rt: HostRuntime) {

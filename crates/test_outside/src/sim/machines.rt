@@ -2,7 +2,7 @@
 
 use crate::ports::{at_home, call_port, commands, does, fails, in_lab, name, refuses, stands};
 use dr_base::{Name, Side};
-use dr_outside::{Placed, Port, PortCall, PortFail, Post};
+use dr_outside::{Kept, Placed, Port, PortCall, PortFail, Post};
 use dr_sim::{PortFault, SimPort};
 use std::alloc::Global;
 
@@ -194,4 +194,40 @@ fn a_machine_runs_a_command_once_where_there_is_room(rt: HostRuntime) {
     let mut port = opened(rt.alloc(), &faults, 0).expect(&rt, "memory");
     assert!(rt; runs_one(rt.alloc(), &mut port));
     assert!(rt; runs_more(rt.alloc(), &mut port));
+}
+
+// Whether one command runs, one fails before, one fails as done, and the first isn't run again.
+fn runs_two_of_three(port: &mut SimPort) -> bool {
+    commands(port, Side::B, 5, "exit-7", Ok(7))
+        && commands(port, Side::A, 6, "exit-8", Err(PortFail::Failed))
+        && commands(port, Side::A, 9, "warm", Err(PortFail::Failed))
+        && commands(port, Side::A, 5, "warm", Err(PortFail::Ran(7)))
+}
+
+// The two commands that ran.
+fn two_of_three(first: Name, last: Name) -> [Kept; 2] {
+    [
+        Kept {
+            token: 5,
+            code: 7,
+            name: first,
+            side: Some(Side::B),
+        },
+        Kept {
+            token: 9,
+            code: 0,
+            name: last,
+            side: Some(Side::A),
+        },
+    ]
+}
+
+#[test]
+fn a_machine_tells_the_commands_that_it_keeps(rt: HostRuntime) {
+    let two = two_of_three(name(&rt, "exit-7"), name(&rt, "warm"));
+    let faults = [fault(2, 0), fault(3, 2)];
+    let mut port = opened(rt.alloc(), &faults, 3).expect(&rt, "memory");
+    assert!(rt; port.kept().is_empty());
+    assert!(rt; runs_two_of_three(&mut port));
+    assert!(rt; port.kept() == two.as_slice());
 }

@@ -2,7 +2,7 @@
 
 use crate::ports::{calls, name};
 use dr_base::Name;
-use dr_outside::{Clock, Runner, RunnerFail};
+use dr_outside::{Clock, Kept, Runner, RunnerFail};
 use dr_sim::{FixedClock, PortFault, SimRunner};
 use std::alloc::Global;
 
@@ -45,6 +45,39 @@ fn a_runner_runs_a_command_once_where_there_is_room(rt: HostRuntime) {
     runner.fuse(u64::MAX);
     assert!(rt; runner.ran(6) == Ok(Some(0)));
     assert!(rt; calls(runner, 7, "exit-7", Err(RunnerFail::Failed)));
+}
+
+// Whether one command runs, one fails before, one fails as done, and the first isn't run again.
+fn runs_two_of_three(runner: &mut SimRunner) -> bool {
+    calls(runner, 5, "exit-7", Ok(7))
+        && calls(runner, 6, "exit-8", Err(RunnerFail::Failed))
+        && calls(runner, 9, "warm", Err(RunnerFail::Failed))
+        && calls(runner, 5, "warm", Err(RunnerFail::Ran(7)))
+}
+
+const fn kept(token: u64, code: u8, name: Name) -> Kept {
+    Kept {
+        token,
+        code,
+        name,
+        side: None,
+    }
+}
+
+#[test]
+fn a_runner_tells_the_commands_that_it_keeps(rt: HostRuntime) {
+    let two = [
+        kept(5, 7, name(&rt, "exit-7")),
+        kept(9, 0, name(&rt, "warm")),
+    ];
+    let faults = [
+        PortFault { call: 2, leaves: 0 },
+        PortFault { call: 3, leaves: 1 },
+    ];
+    let mut runner = opened(rt.alloc(), &faults, 3).expect(&rt, "memory");
+    assert!(rt; runner.kept().is_empty());
+    assert!(rt; runs_two_of_three(&mut runner));
+    assert!(rt; runner.kept() == two.as_slice());
 }
 
 // Whether of six calls of a runner all before this one are done, and all others fail.

@@ -1,6 +1,7 @@
 //! Simulated arrays of small sites.
 
 ghost use Rattle.dr_inventory.specs.Sound.{IsSound};
+ghost use Rattle.dr_inventory.specs.Consistency.{HasLeastEntries};
 
 use dr_inventory::{Estate, read_estate};
 use dr_sim::{ArrayFault, SimArray, Write};
@@ -45,7 +46,8 @@ fn array_of(
     faults: &[ArrayFault],
     writer: &[Write],
 ) -> Option<SimArray>
-    requires { IsSound estate.now }
+    requires sound { IsSound estate.now }
+    requires least_entries { HasLeastEntries estate.now }
 {
     let writes = vec![in alloc; (100, 95); estate.devices.as_slice().len()].ok()?;
     let faults = Vec::from_slice(alloc, faults).ok()?;

@@ -1,4 +1,3 @@
-use Rattle.std.proofs.Common.{◌≡◌, ◌≤◌, ◌<◌, ℕ, refl, sym, ◌∙◌, ap, subst, inl, inr, arith, map, length}
 use Rattle.dr_testing.specs.Tests.{site}
 use Rattle.dr_desk.specs.Calls.{said_by}
 use Rattle.dr_desk.proofs.AnswerLaws.{test_tells}

@@ -1,22 +1,28 @@
-use Rattle.std.proofs.Common.{◌≡◌, ◌≤◌, ◌<◌, ℕ, refl, sym, ◌∙◌, ap, subst, inl, inr, arith, map, length}
-use Rattle.std.specs.Prelude.{None}
 use Rattle.dr_testing.specs.Tests.{site}
-use Rattle.dr_desk.specs.Calls.{said_by, plain, OrLacks}
-use Rattle.dr_desk.proofs.CauseLaws.{input_said, no_estate_said}
+use Rattle.dr_desk.specs.Calls.{said_by}
+use Rattle.dr_desk.proofs.AnswerLaws.{fault_tells}
+use Rattle.dr_desk.proofs.CauseLaws.{declared_said, fault_said}
+use Rattle.std.proofs.Common.{refl}
 use Rattle.dr_desk.proofs.answering.answer_input.Goals as goal
 
--- src/answering.rt:186:1
+pub answer_command-requires-clause-declared : goal.answer_command-requires-clause-declared
+answer_command-requires-clause-declared g c = record { bytes = c.args.input.now; declares = c.in-Ok.ensures.declared }
+
+pub tell_fault-requires-clause-numbers : goal.tell_fault-requires-clause-numbers
+tell_fault-requires-clause-numbers g c = (fault_tells c.args.input.now c.in-Err.fault c.in-Err.ensures.fault).0
+
+pub tell_fault-requires-clause-plain : goal.tell_fault-requires-clause-plain
+tell_fault-requires-clause-plain g c = (fault_tells c.args.input.now c.in-Err.fault c.in-Err.ensures.fault).1
+
 pub returns-in-Ok : goal.returns-in-Ok
 returns-in-Ok g c =
-    input_said g.A.Array.tells g.P.Port.tells c.in-Ok.estate
+    declared_said g.A.Array.tells g.P.Port.tells c.args.command.now c.args.input.now
     (site g.A.Array.state g.P.Port.state c.args.array.now c.args.ports.now)
-    (site g.A.Array.state g.P.Port.state c.answer_estate.new.array c.answer_estate.new.ports)
-    (said_by c.answer_estate.result c.answer_estate.new.text.items) c.args.command.now c.args.input.now c.in-Ok.ensures.estate c.answer_estate.ensures
+    (site g.A.Array.state g.P.Port.state c.answer_command.new.array c.answer_command.new.ports)
+    (said_by c.answer_command.result c.answer_command.new.text.items) c.in-Ok.declared c.in-Ok.ensures.declared c.answer_command.ensures
 
--- src/answering.rt:186:1
 pub returns-in-Err : goal.returns-in-Err
 returns-in-Err g c =
     let old = site g.A.Array.state g.P.Port.state c.args.array.now c.args.ports.now in
-    let said = said_by c.tell.result c.tell.new.text.items in
-    no_estate_said g.A.Array.tells g.P.Port.tells c.args.command.now c.args.input.now old old said c.in-Err.fault refl c.in-Err.ensures.fault
-    (subst (λ a. OrLacks said (said ≡ plain None a)) c.text_fault_answer.ensures c.tell.ensures.told)
+    fault_said g.A.Array.tells g.P.Port.tells c.args.command.now c.args.input.now old old
+    (said_by c.tell_fault.result c.tell_fault.new.text.items) c.in-Err.fault refl c.in-Err.ensures.fault c.tell_fault.ensures

@@ -1,4 +1,4 @@
-use Rattle.std.proofs.Common.{◌≡◌, ◌≤◌, ◌<◌, ℕ, refl, sym, ◌∙◌, ap, subst, inl, inr, arith, map, length}
+use Rattle.std.proofs.Common.{refl, ap, inl, inr}
 use Rattle.std.specs.Prelude.{Err}
 use Rattle.dr_desk.specs.Streams.{looked_at}
 use Rattle.dr_desk.proofs.answering.answer_words.Goals as goal

@@ -1,7 +1,7 @@
 use Rattle.std.proofs.Common.{arith, ap, sym, ◌∙◌, ◌≡◌}
-use Rattle.dr_model.specs.Opening.{opening_frame}
-use Rattle.dr_model.specs.Runs.{named_side}
-use Rattle.dr_model.specs.Expected.{LeavesFrame}
+use Rattle.dr_meaning.specs.Opening.{opening_frame}
+use Rattle.dr_meaning.specs.Runs.{named_side}
+use Rattle.dr_meaning.specs.Expected.{LeavesFrame}
 use Rattle.dr_replay.specs.Values.{run_of}
 use Rattle.dr_expected.specs.Frames.{frame_value}
 use Rattle.dr_expected.specs.Expecting.{IsFrame}

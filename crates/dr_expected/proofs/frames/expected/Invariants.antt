@@ -1,5 +1,5 @@
 use Rattle.std.proofs.Common.{take}
-use Rattle.dr_model.specs.Expected.{ExpectedFrame}
+use Rattle.dr_meaning.specs.Expected.{ExpectedFrame}
 use Rattle.dr_replay.specs.Values.{run_of, runs_told}
 use Rattle.dr_expected.specs.Expecting.{Lists, IsFrame}
 use Rattle.dr_expected.proofs.frames.expected.Given as goal

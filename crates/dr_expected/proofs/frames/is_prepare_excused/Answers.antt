@@ -1,8 +1,8 @@
-use Rattle.dr_model.specs.declared.stage.StageKind.{StageKind}
-use Rattle.dr_model.specs.Visits.{Visit, all}
-use Rattle.dr_model.specs.Stages.{stage_at}
-use Rattle.dr_model.specs.Runs.{stages_of}
-use Rattle.dr_model.specs.Meaning.{is_of_kind}
+use Rattle.dr_meaning.specs.declared.stage.StageKind.{StageKind}
+use Rattle.dr_meaning.specs.Visits.{Visit, all}
+use Rattle.dr_meaning.specs.Stages.{stage_at}
+use Rattle.dr_meaning.specs.Runs.{stages_of}
+use Rattle.dr_meaning.specs.Meaning.{is_of_kind}
 use Rattle.dr_replay.specs.Values.{run_of}
 use Rattle.dr_expected.proofs.ShownLaws.{excused-next, excused-all}
 use Rattle.dr_expected.proofs.frames.is_prepare_excused.Goals as goal

@@ -1,9 +1,9 @@
 use Rattle.std.proofs.Common.{◌≡◌, take, find}
-use Rattle.dr_model.specs.declared.stage.StageKind.{StageKind}
-use Rattle.dr_model.specs.Visits.{all, is_excused}
-use Rattle.dr_model.specs.Stages.{stage_at}
-use Rattle.dr_model.specs.Runs.{stages_of}
-use Rattle.dr_model.specs.Meaning.{is_of_kind}
+use Rattle.dr_meaning.specs.declared.stage.StageKind.{StageKind}
+use Rattle.dr_meaning.specs.Visits.{all, is_excused}
+use Rattle.dr_meaning.specs.Stages.{stage_at}
+use Rattle.dr_meaning.specs.Runs.{stages_of}
+use Rattle.dr_meaning.specs.Meaning.{is_of_kind}
 use Rattle.dr_replay.specs.Values.{run_of, visits_told}
 use Rattle.dr_expected.proofs.frames.is_prepare_excused.Given as goal
 

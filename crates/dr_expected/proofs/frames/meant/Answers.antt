@@ -1,5 +1,5 @@
 use Rattle.std.proofs.Common.{arith}
-use Rattle.dr_model.specs.Meaning.{MeansFrame}
+use Rattle.dr_meaning.specs.Meaning.{MeansFrame}
 use Rattle.dr_replay.specs.Values.{run_of}
 use Rattle.dr_expected.specs.Expecting.{IsFrame}
 use Rattle.dr_expected.proofs.ShownLaws.{leads-more}

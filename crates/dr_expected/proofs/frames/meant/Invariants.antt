@@ -1,5 +1,5 @@
 use Rattle.std.proofs.Common.{take}
-use Rattle.dr_model.specs.Meaning.{MeansFrame}
+use Rattle.dr_meaning.specs.Meaning.{MeansFrame}
 use Rattle.dr_replay.specs.Values.{run_of}
 use Rattle.dr_expected.specs.Expecting.{Leads, IsFrame}
 use Rattle.dr_expected.proofs.frames.meant.Given as goal

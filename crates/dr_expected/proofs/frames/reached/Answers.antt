@@ -1,7 +1,7 @@
 use Rattle.std.proofs.Common.{arith, ◌≡◌, ◌<◌, ◌≤◌, length, take, sym, ap, ◌∙◌, reverse, map, ◌∷◌}
 use Rattle.std.proofs.lemmas.List.{take_all}
-use Rattle.dr_model.specs.Visits.{visits as visits_in}
-use Rattle.dr_model.specs.Reach.{Through, FrameStep}
+use Rattle.dr_meaning.specs.Visits.{visits as visits_in}
+use Rattle.dr_meaning.specs.Reach.{Through, FrameStep}
 use Rattle.dr_replay.specs.Values.{run_of, visit_of, visits_told}
 use Rattle.dr_expected.specs.Expecting.{Leads, IsFrame}
 use Rattle.dr_expected.proofs.ShownLaws.{through-next, through-all}

@@ -1,5 +1,5 @@
 use Rattle.std.proofs.Common.{take}
-use Rattle.dr_model.specs.Reach.{Through, FrameStep}
+use Rattle.dr_meaning.specs.Reach.{Through, FrameStep}
 use Rattle.dr_replay.specs.Values.{run_of, visits_told}
 use Rattle.dr_expected.specs.Expecting.{Leads, IsFrame}
 use Rattle.dr_expected.proofs.frames.reached.Given as goal

@@ -1,7 +1,7 @@
 use Rattle.std.proofs.Common.{arith}
-use Rattle.dr_model.specs.Worlds.{IsOpeningPost}
-use Rattle.dr_model.specs.Runs.{named_side}
-use Rattle.dr_model.specs.Expected.{LeavesPost, wanted}
+use Rattle.dr_meaning.specs.Worlds.{IsOpeningPost}
+use Rattle.dr_meaning.specs.Runs.{named_side}
+use Rattle.dr_meaning.specs.Expected.{LeavesPost, wanted}
 use Rattle.dr_expected.specs.Standings.{IsStanding}
 use Rattle.dr_expected.proofs.ShownLaws.{after-next}
 use Rattle.dr_expected.proofs.posts.expected.Goals as goal

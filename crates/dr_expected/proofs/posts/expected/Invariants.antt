@@ -1,5 +1,5 @@
 use Rattle.std.proofs.Common.{take}
-use Rattle.dr_model.specs.Expected.{ExpectedPost}
+use Rattle.dr_meaning.specs.Expected.{ExpectedPost}
 use Rattle.dr_replay.specs.Values.{runs_told}
 use Rattle.dr_expected.specs.Expecting.{Lists}
 use Rattle.dr_expected.specs.Standings.{IsStanding}

@@ -1,9 +1,9 @@
 use Rattle.std.proofs.Common.{◌≡◌, take, find}
-use Rattle.dr_model.specs.declared.stage.StageKind.{StageKind}
-use Rattle.dr_model.specs.Visits.{is_excused}
-use Rattle.dr_model.specs.Stages.{stage_at}
-use Rattle.dr_model.specs.Runs.{stages_of}
-use Rattle.dr_model.specs.Meaning.{is_wave_of}
+use Rattle.dr_meaning.specs.declared.stage.StageKind.{StageKind}
+use Rattle.dr_meaning.specs.Visits.{is_excused}
+use Rattle.dr_meaning.specs.Stages.{stage_at}
+use Rattle.dr_meaning.specs.Runs.{stages_of}
+use Rattle.dr_meaning.specs.Meaning.{is_wave_of}
 use Rattle.dr_replay.specs.Values.{run_of, visits_told}
 use Rattle.dr_expected.proofs.posts.is_stop_excused.Given as goal
 

@@ -1,4 +1,4 @@
-use Rattle.dr_model.specs.Meaning.{MeansPost}
+use Rattle.dr_meaning.specs.Meaning.{MeansPost}
 use Rattle.dr_replay.specs.Values.{run_of}
 use Rattle.dr_expected.specs.Standings.{placed_value, PostOver, meant_kind, is_sure}
 use Rattle.dr_expected.proofs.PostLaws.{ok-leads, means_post}

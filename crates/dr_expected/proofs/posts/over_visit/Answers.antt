@@ -1,8 +1,8 @@
 use Rattle.std.proofs.Common.{◌≡◌, true, false, sym, ◌∙◌}
-use Rattle.dr_model.specs.declared.stage.StageKind.{StageKind}
-use Rattle.dr_model.specs.Stages.{stage_at}
-use Rattle.dr_model.specs.Runs.{stages_of}
-use Rattle.dr_model.specs.Reach.{is_complete, PostStep}
+use Rattle.dr_meaning.specs.declared.stage.StageKind.{StageKind}
+use Rattle.dr_meaning.specs.Stages.{stage_at}
+use Rattle.dr_meaning.specs.Runs.{stages_of}
+use Rattle.dr_meaning.specs.Reach.{is_complete, PostStep}
 use Rattle.dr_replay.specs.Values.{run_of, visit_of}
 use Rattle.dr_expected.specs.Standings.{placed_value, PostOver}
 use Rattle.dr_expected.proofs.PostLaws.{ok-leads, works_it, leaves_it}

@@ -1,4 +1,4 @@
-use Rattle.dr_model.specs.Reach.{PostStep}
+use Rattle.dr_meaning.specs.Reach.{PostStep}
 use Rattle.dr_replay.specs.Values.{run_of}
 use Rattle.dr_expected.specs.Standings.{IsStanding, placed_value}
 use Rattle.dr_expected.proofs.ShownLaws.{through-next, through-all}

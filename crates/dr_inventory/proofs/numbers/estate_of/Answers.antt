@@ -6,11 +6,11 @@ use Rattle.dr_inventory.proofs.PlaceLaws.{place_small}
 use Rattle.dr_inventory.proofs.NumberLaws.{estate_is}
 use Rattle.dr_inventory.proofs.numbers.estate_of.Goals as goal
 
-pub machines_of-requires : goal.machines_of-requires
-machines_of-requires c = λ q. place_small datastore_name c.args.doc.datastores q _ (c.requires.known.datastores q) c.requires.few_datastores
+pub rows_of-requires : goal.rows_of-requires
+rows_of-requires c = λ q. place_small datastore_name c.args.doc.datastores q _ (c.requires.known.datastores q) c.requires.few_datastores
 
-pub datastores_of-requires : goal.datastores_of-requires
-datastores_of-requires c = λ q.
+pub rows_of-requires-2 : goal.rows_of-requires-2
+rows_of-requires-2 c = λ q.
     let few : length (devices c.args.doc) ≤ 1024 = rw c.requires.names at c.requires.few_devices in
     place_small (λ n. n) (devices c.args.doc) q _ (c.requires.known.devices q) few
 
@@ -19,8 +19,8 @@ consistency_of-requires c = λ q.
     let few : length (devices c.args.doc) ≤ 1024 = rw c.requires.names at c.requires.few_devices in
     place_small (λ n. n) (devices c.args.doc) q _ (c.requires.known.devices q) few
 
-pub groups_of-requires : goal.groups_of-requires
-groups_of-requires c = λ q. place_small datastore_name c.args.doc.datastores q _ (c.requires.known.datastores q) c.requires.few_datastores
+pub rows_of-requires-3 : goal.rows_of-requires-3
+rows_of-requires-3 c = λ q. place_small datastore_name c.args.doc.datastores q _ (c.requires.known.datastores q) c.requires.few_datastores
 
 pub returns : goal.returns
 returns c =

@@ -7,6 +7,7 @@ use Rattle.dr_inventory.specs.Part.{IsUnlessMemory}
 use Rattle.dr_inventory.specs.Documents.{document}
 use Rattle.dr_inventory.specs.Numbers.{estate_of}
 use Rattle.dr_inventory.specs.Estates.{form_faults, row_faults}
+use Rattle.dr_inventory.proofs.EntryLaws.{entries_result}
 use Rattle.dr_inventory.proofs.FaultLaws.{stops_before}
 use Rattle.dr_inventory.proofs.RowLaws.{only_rows}
 use Rattle.dr_inventory.proofs.SoundLaws.{sound_result}
@@ -18,6 +19,9 @@ returns-clause-first c = subst (λ (r : Result Estate EstateFault). IsUnlessMemo
 
 pub returns-clause-sound : goal.returns-clause-sound
 returns-clause-sound c = sound_result (table_view c.args.table.now) c.finish.result (subst (λ (r : Result Estate EstateFault). IsUnlessMemory c.finish.result r) (only_rows (table_view c.args.table.now) c.in_ok-doc.doc c.in_ok-doc.ensures) c.finish.ensures)
+
+pub returns-clause-least_entries : goal.returns-clause-least_entries
+returns-clause-least_entries c = entries_result (table_view c.args.table.now) c.finish.result (subst (λ (r : Result Estate EstateFault). IsUnlessMemory c.finish.result r) (only_rows (table_view c.args.table.now) c.in_ok-doc.doc c.in_ok-doc.ensures) c.finish.ensures)
 
 pub returns-clause-not_told : goal.returns-clause-not_told
 returns-clause-not_told c = never_told (table_view c.args.table.now) c.finish.result (subst (λ (r : Result Estate EstateFault). IsUnlessMemory c.finish.result r) (only_rows (table_view c.args.table.now) c.in_ok-doc.doc c.in_ok-doc.ensures) c.finish.ensures)

@@ -12,7 +12,7 @@ pub returns-in_default-name : goal.returns-in_default-name
 returns-in_default-name c = placed_none (second_none c.in-Some.ensures (second_none c.in-Some-path.ensures (first_none Any bubble_line c.in_default-name.ensures)))
 
 pub returns-in-Some-either : goal.returns-in-Some-either
-returns-in-Some-either c = rw c.placed_at.ensures (placed_made (joined c.in-Some.ensures (joined c.in-Some-path.ensures (joined c.in-Some-name.ensures c.in-Some-either.ensures))))
+returns-in-Some-either c = rw c.from_texts.ensures (placed_made (joined c.in-Some.ensures (joined c.in-Some-path.ensures (joined c.in-Some-name.ensures c.in-Some-either.ensures))))
 
 pub returns-in-None : goal.returns-in-None
 returns-in-None c = placed_none (second_none c.in-Some.ensures (second_none c.in-Some-path.ensures (second_none c.in-Some-name.ensures c.in-None.ensures)))

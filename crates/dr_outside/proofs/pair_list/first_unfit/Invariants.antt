@@ -1,7 +1,7 @@
 use Rattle.std.proofs.Common.{◌≡◌, ℕ, true, take}
 use Rattle.dr_outside.specs.Pairs.{is_fit}
 use Rattle.dr_outside.specs.Arrays.{is_listed}
-use Rattle.dr_outside.specs.PlainArrays.{pair_at}
+use Rattle.dr_outside.specs.PairLists.{pair_at}
 use Rattle.dr_outside.proofs.pair_list.first_unfit.Given as goal
 
 abbrev pub invariant-loop-k : goal.invariant-loop-k

@@ -1,7 +1,7 @@
 use Rattle.std.proofs.Common.{◌≡◌, ℕ, take, if◌then◌else◌}
 use Rattle.dr_outside.specs.Pairs.{made}
 use Rattle.dr_outside.specs.Arrays.{is_listed}
-use Rattle.dr_outside.specs.PlainArrays.{pair_at}
+use Rattle.dr_outside.specs.PairLists.{pair_at}
 use Rattle.dr_outside.proofs.pair_list.make_all.Given as goal
 
 abbrev pub invariant-loop-k : goal.invariant-loop-k

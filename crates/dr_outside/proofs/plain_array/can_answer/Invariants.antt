@@ -1,7 +1,7 @@
 use Rattle.std.proofs.Common.{◌≡◌, false, take}
 use Rattle.std.specs.List.{list_any}
 use Rattle.dr_outside.specs.Pairs.{may_fail}
-use Rattle.dr_outside.specs.PlainArrays.{pair_at}
+use Rattle.dr_outside.specs.PairLists.{pair_at}
 use Rattle.dr_outside.proofs.plain_array.can_answer.Given as goal
 
 abbrev pub invariant-loop-k : goal.invariant-loop-k

@@ -1,6 +1,7 @@
 use Rattle.std.proofs.Common.{◌≡◌, drop}
 use Rattle.dr_outside.specs.Arrays.{has_part}
-use Rattle.dr_outside.specs.PlainArrays.{pair_at, side_to_fail}
+use Rattle.dr_outside.specs.PairLists.{pair_at}
+use Rattle.dr_outside.specs.PlainArrays.{side_to_fail}
 use Rattle.dr_outside.proofs.plain_array.listed_side.Given as goal
 
 abbrev pub invariant-loop-fail : goal.invariant-loop-fail

@@ -1,7 +1,7 @@
 use Rattle.std.proofs.Common.{sym, ◌∙◌, rules, tests}
 use Rattle.std.proofs.lemmas.Iterator.{YieldsList-from_slice}
 use Rattle.std.proofs.lemmas.Iterator.Search.{any_from_yields_List}
-use Rattle.dr_model.specs.Lawful.{is_answer}
+use Rattle.dr_meaning.specs.Lawful.{is_answer}
 use Rattle.dr_replay.proofs.Told.{any_told}
 use Rattle.dr_replay.proofs.commands.has_answer.Goals as goal
 

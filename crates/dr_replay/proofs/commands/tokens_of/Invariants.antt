@@ -1,5 +1,5 @@
 use Rattle.std.proofs.Common.{◌≡◌, ◌++◌, drop}
-use Rattle.dr_model.specs.Lawful.{tokens_from}
+use Rattle.dr_meaning.specs.Lawful.{tokens_from}
 use Rattle.dr_replay.proofs.commands.tokens_of.Given as goal
 
 abbrev pub invariant-loop-i : goal.invariant-loop-i

@@ -1,5 +1,5 @@
 use Rattle.std.proofs.Common.{◌≡◌, take}
-use Rattle.dr_model.specs.Runs.{group_state}
+use Rattle.dr_meaning.specs.Runs.{group_state}
 use Rattle.dr_replay.specs.Values.{runs_told}
 use Rattle.dr_replay.proofs.groups.group_state.Given as goal
 

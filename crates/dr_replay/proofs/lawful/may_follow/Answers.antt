@@ -1,7 +1,7 @@
 use Rattle.std.proofs.Common.{◌≡◌, true, Some, ap, sym, ◌∙◌, rules, tests}
 use Rattle.std.specs.Option.{option_map}
-use Rattle.dr_model.specs.Runs.{run_named, run_at, is_open}
-use Rattle.dr_model.specs.Lawful.{MayCome}
+use Rattle.dr_meaning.specs.Runs.{run_named, run_at, is_open}
+use Rattle.dr_meaning.specs.Lawful.{MayCome}
 use Rattle.dr_replay.specs.Values.{run_of, runs_told}
 use Rattle.dr_replay.specs.Following.{MayTake}
 use Rattle.dr_replay.proofs.FollowLaws.{come_of_open, if_ok_told}

@@ -1,5 +1,5 @@
 use Rattle.std.proofs.Common.{◌≡◌, take}
-use Rattle.dr_model.specs.Next.{begun_since_attempt}
+use Rattle.dr_meaning.specs.Next.{begun_since_attempt}
 use Rattle.dr_replay.specs.Values.{newest_first}
 use Rattle.dr_replay.proofs.next.begun_since_attempt.Given as goal
 

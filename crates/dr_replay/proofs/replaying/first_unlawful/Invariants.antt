@@ -1,6 +1,6 @@
 use Rattle.std.proofs.Common.{◌≡◌, [], take}
-use Rattle.dr_model.specs.Runs.{runs_of}
-use Rattle.dr_model.specs.Lawful.{LawfulAfter}
+use Rattle.dr_meaning.specs.Runs.{runs_of}
+use Rattle.dr_meaning.specs.Lawful.{LawfulAfter}
 use Rattle.dr_replay.specs.Values.{runs_told, in_force}
 use Rattle.dr_replay.proofs.replaying.first_unlawful.Given as goal
 

@@ -1,5 +1,5 @@
 use Rattle.std.proofs.Common.{◌≡◌, take}
-use Rattle.dr_model.specs.Runs.{runs_of}
+use Rattle.dr_meaning.specs.Runs.{runs_of}
 use Rattle.dr_replay.specs.Values.{runs_told, in_force}
 use Rattle.dr_replay.proofs.runs.replay.Given as goal
 

@@ -1,6 +1,6 @@
 use Rattle.std.proofs.Common.{◌≡◌, take}
 use Rattle.std.specs.Prelude.{option_map}
-use Rattle.dr_model.specs.Runs.{run_at}
+use Rattle.dr_meaning.specs.Runs.{run_at}
 use Rattle.dr_replay.specs.Values.{run_of, runs_told}
 use Rattle.dr_replay.proofs.runs.run_at.Given as goal
 

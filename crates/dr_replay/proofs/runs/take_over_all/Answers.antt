@@ -1,5 +1,5 @@
 use Rattle.std.proofs.Common.{◌≡◌, ap, length, arith, rules}
-use Rattle.dr_model.specs.Runs.{take_over}
+use Rattle.dr_meaning.specs.Runs.{take_over}
 use Rattle.dr_replay.specs.Values.{run_of}
 use Rattle.dr_replay.proofs.FirstOf.{first_step, first_done, given_back}
 use Rattle.dr_replay.proofs.runs.take_over_all.Goals as goal

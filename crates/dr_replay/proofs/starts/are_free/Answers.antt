@@ -1,6 +1,6 @@
 use Rattle.std.proofs.Common.{◌≡◌, ◌≢◌, ◌&&◌, true, false, arith}
 use Rattle.std.specs.List.{AllByRecursion}
-use Rattle.dr_model.specs.Runs.{Run, is_open, number, holds}
+use Rattle.dr_meaning.specs.Runs.{Run, is_open, number, holds}
 use Rattle.dr_replay.specs.Values.{run_of}
 use Rattle.dr_replay.proofs.EachTold.{all_told_more, and_on, and_off}
 use Rattle.dr_replay.proofs.starts.are_free.Goals as goal

@@ -1,6 +1,6 @@
 use Rattle.std.proofs.Common.{take}
 use Rattle.std.specs.Prelude.{IsTrue, ◌↔◌}
-use Rattle.dr_model.specs.Lawful.{AreFree}
+use Rattle.dr_meaning.specs.Lawful.{AreFree}
 use Rattle.dr_replay.specs.Values.{runs_told}
 use Rattle.dr_replay.proofs.starts.are_free.Given as goal
 

@@ -1,7 +1,7 @@
 use Rattle.std.proofs.Common.{take}
 use Rattle.std.specs.Prelude.{IsTrue, ◌↔◌}
 use Rattle.std.specs.List.{AllByRecursion}
-use Rattle.dr_model.specs.Lawful.{IsPairRow}
+use Rattle.dr_meaning.specs.Lawful.{IsPairRow}
 use Rattle.dr_replay.proofs.starts.are_pair_rows.Given as goal
 
 abbrev pub invariant-loop-pair : goal.invariant-loop-pair

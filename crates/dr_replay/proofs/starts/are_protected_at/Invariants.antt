@@ -1,7 +1,7 @@
 use Rattle.std.proofs.Common.{◌≡◌, take}
 use Rattle.std.specs.Prelude.{IsTrue, ◌↔◌}
 use Rattle.std.specs.List.{AllByRecursion}
-use Rattle.dr_model.specs.Runs.{group_state}
+use Rattle.dr_meaning.specs.Runs.{group_state}
 use Rattle.dr_replay.specs.Values.{runs_told}
 use Rattle.dr_replay.proofs.starts.are_protected_at.Given as goal
 

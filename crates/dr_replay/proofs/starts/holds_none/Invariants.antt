@@ -1,7 +1,7 @@
 use Rattle.std.proofs.Common.{◌≡◌, take, false}
 use Rattle.std.specs.Prelude.{IsTrue, ◌↔◌}
 use Rattle.std.specs.List.{AllByRecursion}
-use Rattle.dr_model.specs.Runs.{holds}
+use Rattle.dr_meaning.specs.Runs.{holds}
 use Rattle.dr_replay.specs.Values.{run_of}
 use Rattle.dr_replay.proofs.starts.holds_none.Given as goal
 

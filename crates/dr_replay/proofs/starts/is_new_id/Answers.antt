@@ -1,5 +1,5 @@
 use Rattle.std.proofs.Common.{◌≡◌, ◌≢◌, ◌&&◌, arith}
-use Rattle.dr_model.specs.Runs.{Run}
+use Rattle.dr_meaning.specs.Runs.{Run}
 use Rattle.dr_replay.specs.Values.{run_of}
 use Rattle.dr_replay.proofs.EachTold.{all_told_more, and_on, and_off}
 use Rattle.dr_replay.proofs.starts.is_new_id.Goals as goal

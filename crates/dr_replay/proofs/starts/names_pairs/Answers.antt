@@ -1,4 +1,4 @@
-use Rattle.dr_model.specs.Types.{StartPair}
+use Rattle.dr_meaning.specs.Types.{StartPair}
 use Rattle.dr_replay.proofs.PairLists.{all_agree}
 use Rattle.dr_replay.proofs.starts.names_pairs.Goals as goal
 

@@ -1,5 +1,5 @@
 use Rattle.std.proofs.Common.{◌≡◌, take}
-use Rattle.dr_model.specs.Lawful.{over_for}
+use Rattle.dr_meaning.specs.Lawful.{over_for}
 use Rattle.dr_replay.specs.Values.{runs_told}
 use Rattle.dr_replay.proofs.starts.over_for.Given as goal
 

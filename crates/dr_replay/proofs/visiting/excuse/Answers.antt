@@ -1,6 +1,6 @@
 use Rattle.std.proofs.Common.{◌≡◌, suc, ◌-◌, ◌<◌, length, [], ◌∷◌, ◌++◌, reverse, refl, sym, ◌∙◌, ap, arith}
 use Rattle.std.proofs.lemmas.List.{reverse-append}
-use Rattle.dr_model.specs.Visits.{excuse}
+use Rattle.dr_meaning.specs.Visits.{excuse}
 use Rattle.dr_replay.specs.Values.{visit_of}
 use Rattle.dr_replay.proofs.LastOf.{told_last, told_changed}
 use Rattle.dr_replay.proofs.visiting.excuse.Goals as goal

@@ -1,8 +1,8 @@
 use Rattle.std.proofs.Common.{◌==◌, reverse, sym, ◌∙◌, ap}
 use Rattle.std.specs.Prelude.{option_map}
 use Rattle.std.proofs.lemmas.List.{map-id}
-use Rattle.dr_model.specs.Stages.{has}
-use Rattle.dr_model.specs.Visits.{is_excused}
+use Rattle.dr_meaning.specs.Stages.{has}
+use Rattle.dr_meaning.specs.Visits.{is_excused}
 use Rattle.dr_replay.specs.Values.{visit_of}
 use Rattle.dr_replay.proofs.Told.{any_told}
 use Rattle.dr_replay.proofs.visiting.is_excused.Goals as goal

@@ -1,5 +1,5 @@
 use Rattle.std.proofs.Common.{◌≡◌, suc, ◌-◌, ◌<◌, length, refl, sym, ◌∙◌, ap, arith}
-use Rattle.dr_model.specs.Visits.{mark_done}
+use Rattle.dr_meaning.specs.Visits.{mark_done}
 use Rattle.dr_replay.specs.Values.{visit_of}
 use Rattle.dr_replay.proofs.LastOf.{told_last, told_changed}
 use Rattle.dr_replay.proofs.visiting.mark_done.Goals as goal

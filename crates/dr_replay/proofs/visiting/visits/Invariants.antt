@@ -1,5 +1,5 @@
 use Rattle.std.proofs.Common.{◌≡◌, take}
-use Rattle.dr_model.specs.Visits.{visits as visits_in}
+use Rattle.dr_meaning.specs.Visits.{visits as visits_in}
 use Rattle.dr_replay.specs.Values.{visits_told, newest_first}
 use Rattle.dr_replay.proofs.visiting.visits.Given as goal
 

@@ -1,5 +1,5 @@
 use Rattle.std.proofs.Common.{false, not, get_or, ap, sym, ◌∙◌}
-use Rattle.dr_outside.specs.PlainArrays.{pair_at}
+use Rattle.dr_outside.specs.PairLists.{pair_at}
 use Rattle.dr_sim.specs.Groups.{least_of}
 use Rattle.dr_sim.proofs.Ending.{fit_by, none_made, marked_made}
 use Rattle.dr_sim.proofs.groups.make_first.Goals as goal

@@ -1,5 +1,5 @@
 use Rattle.std.proofs.Common.{◌≡◌, ℕ, take, false, get_or}
-use Rattle.dr_outside.specs.PlainArrays.{pair_at}
+use Rattle.dr_outside.specs.PairLists.{pair_at}
 use Rattle.dr_sim.specs.Groups.{least_of}
 use Rattle.dr_sim.proofs.Marking.{made_where}
 use Rattle.dr_sim.proofs.groups.make_marked.Given as goal

@@ -1,5 +1,5 @@
 use Rattle.std.proofs.Common.{◌≡◌, ℕ, ◌<◌, length, get_or}
-use Rattle.dr_outside.specs.PlainArrays.{pair_at}
+use Rattle.dr_outside.specs.PairLists.{pair_at}
 use Rattle.dr_sim.specs.Openings.{protected_at, opening_of}
 use Rattle.dr_sim.proofs.opening.opening_pairs.Given as goal
 

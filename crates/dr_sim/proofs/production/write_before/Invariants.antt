@@ -1,6 +1,6 @@
 use Rattle.std.proofs.Common.{◌≡◌, ℕ, drop, length}
 use Rattle.dr_outside.specs.Pairs.{Drift}
-use Rattle.dr_outside.specs.PlainArrays.{pair_at}
+use Rattle.dr_outside.specs.PairLists.{pair_at}
 use Rattle.dr_sim.specs.Production.{after_writes}
 use Rattle.dr_sim.proofs.production.write_before.Given as goal
 

@@ -1,5 +1,5 @@
 use Rattle.std.proofs.Common.{◌∙◌, ap, not, is_some}
-use Rattle.dr_outside.specs.PlainArrays.{pair_at}
+use Rattle.dr_outside.specs.PairLists.{pair_at}
 use Rattle.dr_outside.proofs.Listed.{listed_below}
 use Rattle.dr_sim.proofs.Ending.{fit_by}
 use Rattle.dr_sim.proofs.sim_array.make_unless_unfit.Goals as goal

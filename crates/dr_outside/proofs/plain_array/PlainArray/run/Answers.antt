@@ -1,5 +1,5 @@
 use Rattle.std.proofs.Common.{length, ap, arith}
-use Rattle.dr_outside.specs.PlainArrays.{pair_at}
+use Rattle.dr_outside.specs.PairLists.{pair_at}
 use Rattle.dr_outside.proofs.Drifts.{Drift-refl}
 use Rattle.dr_outside.proofs.AtOnce.{none_done, wrong_at_once}
 use Rattle.dr_outside.proofs.Listed.{listed_below}

@@ -1,7 +1,7 @@
 use Rattle.std.proofs.Common.{sym, ◌∙◌, rules, tests}
 use Rattle.std.proofs.lemmas.Iterator.{YieldsList-from_slice}
 use Rattle.std.proofs.lemmas.Iterator.Search.{any_from_yields_List}
-use Rattle.dr_model.specs.Lawful.{is_code}
+use Rattle.dr_meaning.specs.Lawful.{is_code}
 use Rattle.dr_replay.proofs.Told.{any_told}
 use Rattle.dr_replay.proofs.runs.Run.is_coded.Goals as goal
 

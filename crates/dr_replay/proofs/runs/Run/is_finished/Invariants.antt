@@ -1,6 +1,6 @@
 use Rattle.std.proofs.Common.{◌≡◌, take}
 use Rattle.std.specs.List.{list_any}
-use Rattle.dr_model.specs.Runs.{is_finish}
+use Rattle.dr_meaning.specs.Runs.{is_finish}
 use Rattle.dr_replay.specs.Values.{newest_first}
 use Rattle.dr_replay.proofs.runs.Run.is_finished.Given as goal
 

@@ -1,5 +1,5 @@
 use Rattle.std.proofs.Common.{◌≡◌, take}
-use Rattle.dr_model.specs.Lawful.{last_aside}
+use Rattle.dr_meaning.specs.Lawful.{last_aside}
 use Rattle.dr_replay.specs.Values.{newest_first}
 use Rattle.dr_replay.proofs.runs.Run.last_aside.Given as goal
 

@@ -1,7 +1,7 @@
 use Rattle.std.proofs.Common.{IsTrue, rules, tests}
 use Rattle.std.proofs.lemmas.Iterator.{YieldsList-from_slice}
 use Rattle.std.proofs.lemmas.Iterator.Search.{all_from_yields_List}
-use Rattle.dr_model.specs.Meaning.{is_left}
+use Rattle.dr_meaning.specs.Meaning.{is_left}
 use Rattle.dr_replay.specs.Values.{run_of}
 use Rattle.dr_replay.proofs.AllTests.{all_tests}
 use Rattle.dr_replay.proofs.walk.Walk.all_left.Goals as goal

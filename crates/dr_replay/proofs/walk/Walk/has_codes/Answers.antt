@@ -1,5 +1,5 @@
-use Rattle.dr_model.specs.Runs.{stages_of}
-use Rattle.dr_model.specs.Stages.{stage_at}
+use Rattle.dr_meaning.specs.Runs.{stages_of}
+use Rattle.dr_meaning.specs.Stages.{stage_at}
 use Rattle.dr_replay.specs.Values.{run_of}
 use Rattle.dr_replay.proofs.LawfulSteps.{codes_of_command}
 use Rattle.dr_replay.proofs.walk.Walk.has_codes.Goals as goal

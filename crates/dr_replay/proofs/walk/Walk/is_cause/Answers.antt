@@ -1,6 +1,6 @@
 use Rattle.std.proofs.Common.{◌≡◌, false, subst}
 use Rattle.std.specs.List.{AllByRecursion}
-use Rattle.dr_model.specs.Meaning.{is_left}
+use Rattle.dr_meaning.specs.Meaning.{is_left}
 use Rattle.dr_replay.specs.Values.{run_of}
 use Rattle.dr_replay.proofs.LawfulSteps.{cause_alone}
 use Rattle.dr_replay.proofs.walk.Walk.is_cause.Goals as goal

@@ -1,8 +1,8 @@
 use Rattle.std.proofs.Common.{◌≡◌, take, find}
 use Rattle.std.specs.Prelude.{option_map}
-use Rattle.dr_model.specs.Runs.{stages_of}
-use Rattle.dr_model.specs.Stages.{stage_at}
-use Rattle.dr_model.specs.Meaning.{is_wave_of}
+use Rattle.dr_meaning.specs.Runs.{stages_of}
+use Rattle.dr_meaning.specs.Stages.{stage_at}
+use Rattle.dr_meaning.specs.Meaning.{is_wave_of}
 use Rattle.dr_replay.specs.Values.{run_of, visit_of, visits_told}
 use Rattle.dr_replay.proofs.walk.Walk.last_visit_of.Given as goal
 

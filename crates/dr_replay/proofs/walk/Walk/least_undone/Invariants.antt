@@ -1,6 +1,6 @@
 use Rattle.std.proofs.Common.{◌≡◌, ◌+◌, drop, not}
-use Rattle.dr_model.specs.Next.{least_stage}
-use Rattle.dr_model.specs.Visits.{is_done}
+use Rattle.dr_meaning.specs.Next.{least_stage}
+use Rattle.dr_meaning.specs.Visits.{is_done}
 use Rattle.dr_replay.specs.Values.{run_of}
 use Rattle.dr_replay.proofs.walk.Walk.least_undone.Given as goal
 

@@ -1,5 +1,5 @@
 use Rattle.std.proofs.Common.{◌≡◌, ◌+◌, drop}
-use Rattle.dr_model.specs.Next.{least_stage, is_worked_again}
+use Rattle.dr_meaning.specs.Next.{least_stage, is_worked_again}
 use Rattle.dr_replay.specs.Values.{run_of}
 use Rattle.dr_replay.proofs.walk.Walk.least_worked_again.Given as goal
 

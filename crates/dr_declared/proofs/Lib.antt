@@ -1,0 +1,6 @@
+mod MissingLaws
+mod ReadingLaws
+mod TextLaws
+mod WholeLaws
+pub mod UniqueLaws
+pub mod PlanFacts

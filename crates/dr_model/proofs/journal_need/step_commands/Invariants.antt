@@ -1,6 +1,0 @@
-use Rattle.std.proofs.Common.{◌≡◌, ◌≤◌, take}
-use Rattle.dr_model.specs.Need.{step_commands}
-use Rattle.dr_model.proofs.journal_need.step_commands.Given as goal
-
-abbrev pub invariant-loop-step : goal.invariant-loop-step
-invariant-loop-step l = (l.total ≡ step_commands (take l.step-index l.steps)) × (l.total ≤ l.step-index)

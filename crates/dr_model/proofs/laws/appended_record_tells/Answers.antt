@@ -1,5 +1,0 @@
-use Rattle.dr_model.proofs.FileLaws.{append_tells}
-use Rattle.dr_model.proofs.laws.appended_record_tells.Goals as goal
-
-pub returns : goal.returns
-returns c = append_tells

@@ -1,5 +1,0 @@
-use Rattle.dr_model.proofs.StaysExpected.{begin_keeps_frames}
-use Rattle.dr_model.proofs.laws.begin_keeps_frames.Goals as goal
-
-pub returns : goal.returns
-returns c = begin_keeps_frames

@@ -1,5 +1,0 @@
-use Rattle.dr_model.proofs.Declared.{declared_regular}
-use Rattle.dr_model.proofs.laws.declared_plans_are_regular.Goals as goal
-
-pub returns : goal.returns
-returns c = declared_regular

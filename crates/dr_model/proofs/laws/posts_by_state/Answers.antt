@@ -1,5 +1,0 @@
-use Rattle.dr_model.proofs.PostLaws.{posts_by_state}
-use Rattle.dr_model.proofs.laws.posts_by_state.Goals as goal
-
-pub returns : goal.returns
-returns c = posts_by_state

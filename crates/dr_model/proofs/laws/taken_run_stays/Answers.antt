@@ -1,8 +1,0 @@
-use Rattle.dr_model.proofs.TakenLaws.{stands-lawful}
-use Rattle.dr_model.proofs.laws.taken_run_stays.Goals as goal
-
-pub returns-clause-none : goal.returns-clause-none
-returns-clause-none c = λ setting records n run lawful at_n. (stands-lawful setting records n run lawful at_n).none
-
-pub returns-clause-stays : goal.returns-clause-stays
-returns-clause-stays c = λ setting records n run lawful at_n. (stands-lawful setting records n run lawful at_n).some

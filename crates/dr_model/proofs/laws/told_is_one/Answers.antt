@@ -1,5 +1,0 @@
-use Rattle.dr_model.proofs.FileLaws.{one_told}
-use Rattle.dr_model.proofs.laws.told_is_one.Goals as goal
-
-pub returns : goal.returns
-returns c = one_told

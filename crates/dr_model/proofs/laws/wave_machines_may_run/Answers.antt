@@ -1,6 +1,0 @@
-use Rattle.dr_model.proofs.MayRunLaws.{may_run}
-use Rattle.dr_model.proofs.laws.wave_machines_may_run.Goals as goal
-
-pub returns : goal.returns
-returns c = λ setting records run visit earlier m old now lawful plans at_n going shape starts listed worked none there has_pairs sound readies runner frames commands.
-    may_run setting records lawful plans run at_n going visit earlier shape starts m listed worked old now sound there has_pairs none readies runner frames commands

@@ -1,4 +1,0 @@
-mod MissingLaws
-pub mod ReadingLaws
-pub mod UniqueLaws
-pub mod PlanFacts
