@@ -1,5 +1,6 @@
 pub mod Answers
 pub mod Causes
+pub mod Lists
 pub mod Memory
 pub mod Names
 pub mod Padded

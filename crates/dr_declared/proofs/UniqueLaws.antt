@@ -12,7 +12,7 @@ use Rattle.dr_inventory.specs.declared.estate.GroupRow.{GroupRow}
 use Rattle.dr_inventory.specs.declared.estate.PlanRow.{PlanRow}
 use Rattle.dr_inventory.specs.declared.estate.Estate.{Estate}
 use Rattle.dr_inventory.specs.Estates.{IsEstateText}
-use Rattle.dr_inventory.specs.Sound.{IsSound}
+use Rattle.dr_inventory.specs.Sound.{IsSoundEstate}
 use Rattle.dr_inventory.specs.declared.members.Members.{Members}
 use Rattle.dr_inventory.proofs.OneText.{one_estate}
 use Rattle.dr_inventory.proofs.SoundLaws.{sound}
@@ -36,7 +36,7 @@ use Rattle.dr_declared.proofs.MissingLaws.{members_within}
 use Rattle.dr_declared.proofs.TextLaws.{one_text_fault, no_text_fault}
 
 -- an estate's text gives a sound estate
-pub text_sound : (bytes : List ℕ) (e : Estate) → IsEstateText bytes e → IsSound e
+pub text_sound : (bytes : List ℕ) (e : Estate) → IsEstateText bytes e → IsSoundEstate e
 text_sound bytes e text = sound text.table e text.value
 
 -- what bytes declare is one
@@ -150,7 +150,7 @@ one_reading bytes (Err f) (Ok d) a b = absurd (no_fault bytes d f b a)
 one_reading bytes (Err f) (Err g) a b = ap (λ x. Err x) (one_fault bytes f g a b)
 
 -- the numbers that the first fault tells are the estate's
-pub fault_numbers : (e : Estate) (f : ProtectionFault) → IsSound e → IsProtectionFaultOf e f → HoldsNumbers e f
+pub fault_numbers : (e : Estate) (f : ProtectionFault) → IsSoundEstate e → IsProtectionFaultOf e f → HoldsNumbers e f
 fault_numbers e (OfGroups (NotClosed g i o)) sound h = split_within e g i o sound h.is_first
 fault_numbers e (OfGroups (InTwo d g k)) sound h = shared_within e d g k sound h.is_first
 fault_numbers e (OfGroups NoMemoryForGroups) sound h = tt

@@ -5,7 +5,7 @@
 mod contents;
 mod missing;
 mod protection;
-mod reading;
+mod whole_estate;
 
 pub use contents::{Declared, DeclaredFault, ProtectionFault};
-pub use reading::read_declared;
+pub use whole_estate::read_declared;

@@ -2,7 +2,7 @@
 
 ghost use Rattle.std.specs.Prelude.{◌≡◌, ◌<◌, length, IsNone, IfSome};
 ghost use Rattle.std.specs.List.Sorted.{IsStrictlyIncreasing};
-ghost use Rattle.dr_inventory.specs.Sound.{AllBelow, IsSound};
+ghost use Rattle.dr_inventory.specs.Sound.{AllBelow, IsSoundEstate};
 ghost use Rattle.dr_groups.specs.Groups.{AreMembersOf};
 ghost use Rattle.dr_mappings.specs.Placements.{place_of};
 ghost use Rattle.dr_declared.specs.Missing.{AreAllPlaced, IsFirstOfGroup, IsFirstOfList, IsFirstUnmapped, lacking, lesser, missing};
@@ -13,7 +13,7 @@ use dr_mappings::place;
 
 // The map that a machine lacks at a side.
 fn lacking(estate: &Estate, machine: u32, home: Side, side: Side, bubble: bool) -> Option<Unmapped>
-    requires sound { IsSound estate.now }
+    requires sound { IsSoundEstate estate.now }
     requires declared { machine < length estate.now.machines }
     ensures { result ≡ lacking (place_of estate.now machine home side bubble) }
 {
@@ -22,7 +22,7 @@ fn lacking(estate: &Estate, machine: u32, home: Side, side: Side, bubble: bool) 
 
 // The first map that a machine lacks, where the estate names this side for its group.
 fn missing(estate: &Estate, machine: u32, home: Side) -> Option<Unmapped>
-    requires sound { IsSound estate.now }
+    requires sound { IsSoundEstate estate.now }
     requires declared { machine < length estate.now.machines }
     ensures { result ≡ missing estate.now machine home }
 {
@@ -38,7 +38,7 @@ fn missing(estate: &Estate, machine: u32, home: Side) -> Option<Unmapped>
 
 // The first of these machines, which ascend, that lacks a map, with the first one that it lacks.
 fn first_of_list(estate: &Estate, home: Side, machines: &[u32]) -> Option<Unmapped>
-    requires sound { IsSound estate.now }
+    requires sound { IsSoundEstate estate.now }
     requires declared { AllBelow (length estate.now.machines) machines.now }
     requires ascending { IsStrictlyIncreasing machines.now }
     ensures { IsFirstOfList estate.now home machines.now result }
@@ -65,7 +65,7 @@ fn lesser(a: Option<Unmapped>, b: Option<Unmapped>) -> Option<Unmapped>
 
 // The first of a protection group's machines that lacks a map.
 fn first_of_group(estate: &Estate, members: &Members, group: usize) -> Option<Unmapped>
-    requires sound { IsSound estate.now }
+    requires sound { IsSoundEstate estate.now }
     requires members { AreMembersOf estate.now members.now }
     requires declared { group < length estate.now.groups }
     ensures { IsFirstOfGroup estate.now members.now group result }
@@ -77,7 +77,7 @@ fn first_of_group(estate: &Estate, members: &Members, group: usize) -> Option<Un
 /// The least machine of a protection group that lacks a map, with the first map that it lacks: at the
 /// side that its group doesn't protect, there in a bubble, at the other side in a bubble.
 pub(crate) fn first_unmapped(estate: &Estate, members: &Members) -> Option<Unmapped>
-    requires sound { IsSound estate.now }
+    requires sound { IsSoundEstate estate.now }
     requires members { AreMembersOf estate.now members.now }
     ensures none { IsNone result → AreAllPlaced estate.now members.now }
     ensures first { IfSome result (IsFirstUnmapped estate.now members.now) }

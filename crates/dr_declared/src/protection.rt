@@ -1,7 +1,7 @@
 //! Reading the protection of an estate: what its groups hold, and its plans.
 
 ghost use Rattle.std.specs.Prelude.{◌≡◌, ◌<◌, ℕ, length, All, IfOk, IfErr, OnOk, Some, slice_get};
-ghost use Rattle.dr_inventory.specs.Sound.{IsSound};
+ghost use Rattle.dr_inventory.specs.Sound.{IsSoundEstate};
 ghost use Rattle.dr_inventory.specs.declared.estate.PlanRow.{PlanRow};
 ghost use Rattle.dr_groups.specs.Groups.{AreMembersOf, Passes};
 ghost use Rattle.dr_plan.specs.Orders.{IsOrdered};
@@ -44,7 +44,7 @@ fn plan_of(
     members: &Members,
     number: usize,
 ) -> Result<Plan, ReadError>
-    requires sound { IsSound estate.now }
+    requires sound { IsSoundEstate estate.now }
     requires members { AreMembersOf estate.now members.now }
     requires declared { number < length estate.now.plans }
     ensures plan { IfOk result (IsPlanOf estate.now members.now number) }
@@ -60,7 +60,7 @@ fn plan_of(
 
 // The estate's plans, or the first fault of the first plan that isn't valid.
 fn all_plans(alloc: Global, estate: &Estate, members: &Members) -> Result<Vec<Plan>, ReadError>
-    requires sound { IsSound estate.now }
+    requires sound { IsSoundEstate estate.now }
     requires members { AreMembersOf estate.now members.now }
     requires passes { Passes estate.now }
     ensures plans { IfOk result (λ plans. ArePlansOf estate.now members.now plans.items) }
@@ -83,7 +83,7 @@ pub(crate) fn read_plans(
     estate: &Estate,
     members: &Members,
 ) -> Result<Vec<Plan>, ReadError>
-    requires sound { IsSound estate.now }
+    requires sound { IsSoundEstate estate.now }
     requires members { AreMembersOf estate.now members.now }
     requires passes { Passes estate.now }
     ensures plans { IfOk result (λ plans. ArePlansOf estate.now members.now plans.items) }
@@ -110,7 +110,7 @@ fn groups_error(fault: GroupFault) -> ReadError
 
 /// What the protection groups of an estate hold, or their first fault.
 pub(crate) fn read_members(alloc: Global, estate: &Estate) -> Result<Members, ReadError>
-    requires { IsSound estate.now }
+    requires { IsSoundEstate estate.now }
     ensures members { IfOk result (AreMembersOf estate.now) }
     ensures passes { OnOk result (Passes estate.now) }
     ensures fault { IfErr result (UnlessMemory (IsProtectionFaultOf estate.now)) }

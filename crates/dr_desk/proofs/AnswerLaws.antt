@@ -21,11 +21,11 @@ use Rattle.dr_inventory.specs.declared.estate.GroupRow.{GroupRow}
 use Rattle.dr_inventory.specs.declared.estate.Estate.{Estate}
 use Rattle.dr_plan.specs.declared.plan.PlanMachine.{PlanMachine}
 use Rattle.dr_plan.specs.declared.plan.Plan.{Plan}
-use Rattle.dr_outside.specs.Arrays.{is_listed}
+use Rattle.dr_base.specs.Lists.{has}
 use Rattle.dr_outside.proofs.Listed.{place_of}
 use Rattle.dr_testing.specs.Placing.{is_planned}
-use Rattle.dr_testing.specs.Tests.{Site, CallsNothing, HasSlots, IsTestable, TestCause, RunCause}
-use Rattle.dr_inventory.specs.Sound.{IsSound}
+use Rattle.dr_testing.specs.Tests.{Outside, CallsNothing, HasSlots, IsTestable, TestCause, RunCause}
+use Rattle.dr_inventory.specs.Sound.{IsSoundEstate}
 use Rattle.dr_plan.specs.Faults.{IsFirstOfRow}
 use Rattle.dr_declared.specs.declared.contents.ProtectionFault.{ProtectionFault}
 use Rattle.dr_declared.specs.declared.contents.ProtectionFault.TheVariants.{Groups as OfGroups, Plan as OfPlan, Unmapped as OfMaps}
@@ -35,9 +35,9 @@ use Rattle.dr_declared.specs.Faults.{HoldsNumbers, IsFirstFaultOf, IsProtectionF
 use Rattle.dr_declared.proofs.UniqueLaws.{fault_numbers, text_sound}
 use Rattle.dr_report.specs.Conditions.{HidesNoAnswer, HoldsNumbersOf, IsShort}
 use Rattle.dr_base.specs.declared.answer.Thing.{Thing}
-use Rattle.dr_desk.specs.Calls.{Said, OrLacked, VerdictCause, IsTest, plain}
+use Rattle.dr_desk.specs.Calls.{Said, OrLacked, DecisionCause, IsTestOutcome, plain}
 use Rattle.dr_desk.specs.Faults.{fault_answer, fault_estate, protection_answer}
-use Rattle.dr_desk.specs.Verdicts.{slots_verdict, IsPlainRefusal, Test}
+use Rattle.dr_desk.specs.Decisions.{slots_decision, IsPlainRefusal, Test}
 
 -- an answer that may be told, and whose text always finds room
 pub record IsTellable (estate : Estate) (answer : Answer) : Type 0 where
@@ -54,14 +54,14 @@ planned_within estate plan machine t is =
     omega (arith, number, ap (λ (m : PlanMachine). m.machine) found.3, within)
 
 -- a pair of a plan is the estate's
-listed_within : (estate : Estate) (plan : Plan) (pair : ℕ) → IsTestable estate plan → is_listed plan.pairs pair ≡ true → pair < length estate.devices
+listed_within : (estate : Estate) (plan : Plan) (pair : ℕ) → IsTestable estate plan → has plan.pairs pair ≡ true → pair < length estate.devices
 listed_within estate plan pair t is =
     let found = place_of plan.pairs pair is in
     let within : slice_index plan.pairs found.0 < length estate.devices = t.pairs.below found.0 found.1 in
     omega (arith, found.2, within)
 
 -- each answer of a test may be told
-pub test_tells : (array_tells port_tells : Type 0) (estate : Estate) (plan : Plan) (old new : Site) (answer : Answer) → IsTestable estate plan → TestCause array_tells port_tells estate plan old new answer → IsTellable estate answer
+pub test_tells : (array_tells port_tells : Type 0) (estate : Estate) (plan : Plan) (old new : Outside) (answer : Answer) → IsTestable estate plan → TestCause array_tells port_tells estate plan old new answer → IsTellable estate answer
 test_tells array_tells port_tells estate plan old new (Refused (NoSlot Machines have need)) t cause = record { numbers = tt; plain_answer = tt; short = tt }
 test_tells array_tells port_tells estate plan old new (Refused (NoSlot Pairs have need)) t cause = record { numbers = tt; plain_answer = tt; short = tt }
 test_tells array_tells port_tells estate plan old new NoMemory t cause = record { numbers = tt; plain_answer = tt; short = tt }
@@ -73,21 +73,21 @@ test_tells array_tells port_tells estate plan old new (Foreign (MachineThing mac
 test_tells array_tells port_tells estate plan old new answer t cause = absurd cause.1
 
 -- a test's answer, by what it came to
-module _ (array_tells port_tells : Type 0) (estate : Estate) (plan : Plan) (old new : Site) where
+module _ (array_tells port_tells : Type 0) (estate : Estate) (plan : Plan) (old new : Outside) where
   -- the site has room
-  room_verdict : HasSlots estate old → slots_verdict estate plan old ≡ Test plan
-  room_verdict slots =
+  room_decision : HasSlots estate old → slots_decision estate plan old ≡ Test plan
+  room_decision slots =
       let machines : nat_lt old.slots (length estate.machines) ≡ false = le-ltb old.slots (length estate.machines) slots.machines in
       let pairs : nat_lt old.array.count (length estate.devices) ≡ false = le-ltb old.array.count (length estate.devices) slots.pairs in
       rw (machines, pairs) refl
 
   -- an answer of a test that called the array
-  called : (said : Said) → HasSlots estate old → IsTest array_tells port_tells estate plan old new said → VerdictCause array_tells port_tells estate (slots_verdict estate plan old) old new said
-  called said slots is = subst (λ v. VerdictCause array_tells port_tells estate v old new said) (sym (room_verdict slots)) is
+  called : (said : Said) → HasSlots estate old → IsTestOutcome array_tells port_tells estate plan old new said → DecisionCause array_tells port_tells estate (slots_decision estate plan old) old new said
+  called said slots is = subst (λ v. DecisionCause array_tells port_tells estate v old new said) (sym (room_decision slots)) is
 
   pub slots_cause : (answer : Answer) (said : Said) → said ≡ plain (Some estate) answer → TestCause array_tells port_tells estate plan old new answer → CallsNothing old new answer
-      → (RunCause array_tells port_tells estate plan old new answer → IsTest array_tells port_tells estate plan old new said)
-      → OrLacked old new said (VerdictCause array_tells port_tells estate (slots_verdict estate plan old) old new said)
+      → (RunCause array_tells port_tells estate plan old new answer → IsTestOutcome array_tells port_tells estate plan old new said)
+      → OrLacked old new said (DecisionCause array_tells port_tells estate (slots_decision estate plan old) old new said)
   slots_cause (Refused (NoSlot Machines have need)) said told cause nothing test =
       let few : nat_lt old.slots (length estate.machines) ≡ true = lt-ltb old.slots (length estate.machines) (omega (arith, cause.0, cause.1, cause.2)) in
       inr (rw few (record { same = nothing; told = told ∙ ap (λ (r : Refusal). plain (Some estate) (Refused r)) (ap (λ h. NoSlot Machines h need) cause.0 ∙ ap (λ n. NoSlot Machines old.slots n) cause.1) }))
@@ -141,7 +141,7 @@ plans_tell estate name (plan_faults.Cycle machines) numbers = λ k d below. omeg
 plans_tell estate name fault numbers = tt
 
 -- a fault of an estate's protection may be told
-protection_tells : (estate : Estate) (fault : ProtectionFault) → IsSound estate → IsProtectionFaultOf estate fault → HoldsNumbersOf (Some estate) (protection_answer fault) × HidesNoAnswer (protection_answer fault)
+protection_tells : (estate : Estate) (fault : ProtectionFault) → IsSoundEstate estate → IsProtectionFaultOf estate fault → HoldsNumbersOf (Some estate) (protection_answer fault) × HidesNoAnswer (protection_answer fault)
 protection_tells estate (OfGroups fault) sound is = (groups_tell estate fault (fault_numbers estate (OfGroups fault) sound is), is.is_fault)
 protection_tells estate (OfPlan name fault) sound is = (
   plans_tell estate name fault (fault_numbers estate (OfPlan name fault) sound is),

@@ -21,25 +21,25 @@ use Rattle.dr_outside.specs.Arrays.{ArrayState}
 use Rattle.dr_outside.specs.Machines.{PortState, machine_at, no_machine}
 use Rattle.dr_outside.proofs.Drifts.{Drift-refl}
 use Rattle.dr_meaning.specs.StartUp.{is_started}
-use Rattle.dr_testing.specs.Tests.{Site, site, AreInOrder, AreTestedByGroup, AreTestedPairs, HasOpeningPairs, HasOpeningMachines, MachinesDone, PairsDone, RunCause}
+use Rattle.dr_testing.specs.Tests.{Outside, outside, AreInOrder, AreTestedByGroup, AreTestedPairs, HasOpeningPairs, HasOpeningMachines, MachinesDone, PairsDone, RunCause}
 use Rattle.dr_testing.proofs.StorageLaws.{beside}
 use Rattle.dr_report.specs.Reports.{TellsGroups, preview_text_of}
-use Rattle.dr_desk.specs.Calls.{Answers, Received, Sent, Said, IsTest, IsReadFailed, ShowsOnly, ReadingCause, VerdictCause, OrLacked, Gives, IsSilent, LacksMemory, Says, Shows, NoneRose, IsTested, KeepsProtected, KeepsOthers, ComesTo, AsksToTest, plain, refusal_due, verdict_refusal, is_refusal}
+use Rattle.dr_desk.specs.Calls.{Answers, Received, Sent, Said, IsTestOutcome, IsReadFailed, ShowsOnly, ReadingCause, DecisionCause, OrLacked, IsWritten, IsSilent, LacksMemory, Says, Shows, NoneRose, IsTested, KeepsProtected, KeepsOthers, ComesTo, AsksToTest, plain, refusal_due, decision_refusal, is_refusal}
 use Rattle.dr_desk.specs.Streams.{looked_at}
-use Rattle.dr_desk.specs.Verdicts.{Verdict, Refuse, ShowGroups, ShowPlan, Test, NotAsked, verdict, preview_verdict, plan_named}
+use Rattle.dr_desk.specs.Decisions.{Decision, Refuse, ShowGroups, ShowPlan, Test, NotAsked, decision, preview_decision, plan_named}
 use Rattle.dr_desk.specs.Words.{IsCommand, IsFirstBadWord, is_report}
 use Rattle.dr_desk.proofs.WordsLaws.{no_bad_word, one_bad_word, one_command}
 
 -- a machine where there is none stands as before any run
 module _ {R P : Type 0} (array_state : R → ArrayState) (port_state : P → PortState) (array : R) (ports : List P) where
-  rests : HasOpeningMachines (site array_state port_state array ports) → (i : ℕ) → (machine_at port_state ports i).post.b ≡ Placeholder
+  rests : HasOpeningMachines (outside array_state port_state array ports) → (i : ℕ) → (machine_at port_state ports i).post.b ≡ Placeholder
   rests opening i = elim (cases_lt i (length ports)) [
     | inl lt ↦ (opening i lt).there
     | inr past ↦ ap (λ (m : PortState). m.post.b) (get_or_past (map port_state ports) i no_machine (omega (arith, past, length-map ports port_state)))
   ]
 
   -- before any run machines are in order
-  pub in_order_at_rest : (estate : Estate) (plan : Plan) → HasOpeningMachines (site array_state port_state array ports) → AreInOrder estate plan (machine_at port_state ports)
+  pub in_order_at_rest : (estate : Estate) (plan : Plan) → HasOpeningMachines (outside array_state port_state array ports) → AreInOrder estate plan (machine_at port_state ports)
   in_order_at_rest estate plan opening = record {
     stand = λ i planned. inl (rests opening i);
     order = record {
@@ -49,50 +49,50 @@ module _ {R P : Type 0} (array_state : R → ArrayState) (port_state : P → Por
   }
 
 -- the said refusal is the one that is due
-due_of_verdict : (array_tells port_tells : Type 0) (estate : Estate) (v : Verdict) (old new : Site) (said due : Said) → verdict_refusal estate v ≡ Some due → VerdictCause array_tells port_tells estate v old new said → said ≡ due
-due_of_verdict array_tells port_tells estate (Refuse refusal) old new said due is cause = cause.told ∙ ap (λ o. elim o [ None ↦ due | Some s ↦ s ]) is
-due_of_verdict array_tells port_tells estate ShowGroups old new said due is cause = cc is
-due_of_verdict array_tells port_tells estate (ShowPlan plan) old new said due is cause = cc is
-due_of_verdict array_tells port_tells estate (Test plan) old new said due is cause = cc is
-due_of_verdict array_tells port_tells estate NotAsked old new said due is cause = absurd cause
+due_of_decision : (array_tells port_tells : Type 0) (estate : Estate) (v : Decision) (old new : Outside) (said due : Said) → decision_refusal estate v ≡ Some due → DecisionCause array_tells port_tells estate v old new said → said ≡ due
+due_of_decision array_tells port_tells estate (Refuse refusal) old new said due is cause = cause.told ∙ ap (λ o. elim o [ None ↦ due | Some s ↦ s ]) is
+due_of_decision array_tells port_tells estate ShowGroups old new said due is cause = cc is
+due_of_decision array_tells port_tells estate (ShowPlan plan) old new said due is cause = cc is
+due_of_decision array_tells port_tells estate (Test plan) old new said due is cause = cc is
+due_of_decision array_tells port_tells estate NotAsked old new said due is cause = absurd cause
 
-due_of_reading : (array_tells port_tells : Type 0) (command : Command) (reading : Result Declared DeclaredFault) (old new : Site) (said due : Said) → refusal_due reading old command ≡ Some due → ReadingCause array_tells port_tells command reading old new said → said ≡ due
-due_of_reading array_tells port_tells command (Ok declared) old new said due is cause = due_of_verdict array_tells port_tells declared.estate (verdict declared old command) old new said due is cause
+due_of_reading : (array_tells port_tells : Type 0) (command : Command) (reading : Result Declared DeclaredFault) (old new : Outside) (said due : Said) → refusal_due reading old command ≡ Some due → ReadingCause array_tells port_tells command reading old new said → said ≡ due
+due_of_reading array_tells port_tells command (Ok declared) old new said due is cause = due_of_decision array_tells port_tells declared.estate (decision declared old command) old new said due is cause
 due_of_reading array_tells port_tells command (Err fault) old new said due is cause = cause.told ∙ ap (λ o. elim o [ None ↦ due | Some s ↦ s ]) is
 
 -- a site that wasn't touched keeps its protected side
-pub kept_at_rest : (array_tells port_tells : Type 0) (old new : Site) → new ≡ old → KeepsProtected array_tells port_tells old new
+pub kept_at_rest : (array_tells port_tells : Type 0) (old new : Outside) → new ≡ old → KeepsProtected array_tells port_tells old new
 kept_at_rest array_tells port_tells old new same = rw same (record {
   pairs = λ t o i. beside _ _ (Drift-refl _);
   machines = λ t i. record { protected = refl; kept = refl };
 })
 
-pub others_at_rest : (array_tells port_tells : Type 0) (plan : Plan) (old new : Site) → new ≡ old → KeepsOthers array_tells port_tells plan old new
+pub others_at_rest : (array_tells port_tells : Type 0) (plan : Plan) (old new : Outside) → new ≡ old → KeepsOthers array_tells port_tells plan old new
 others_at_rest array_tells port_tells plan old new same = rw same (record { pairs = λ t o i out. Drift-refl _; machines = λ t i out. refl })
 
 -- what a verdict leaves, where it isn't a test
-same_by_verdict : (array_tells port_tells : Type 0) (estate : Estate) (v : Verdict) (old new : Site) (said : Said) → VerdictCause array_tells port_tells estate v old new said → (new ≡ old) ⊎ ((plan : Plan) × IsTest array_tells port_tells estate plan old new said)
-same_by_verdict array_tells port_tells estate (Refuse refusal) old new said cause = inl cause.same
-same_by_verdict array_tells port_tells estate ShowGroups old new said cause = inl cause.same
-same_by_verdict array_tells port_tells estate (ShowPlan plan) old new said cause = inl cause.same
-same_by_verdict array_tells port_tells estate (Test plan) old new said cause = inr (plan, cause)
-same_by_verdict array_tells port_tells estate NotAsked old new said cause = absurd cause
+same_by_decision : (array_tells port_tells : Type 0) (estate : Estate) (v : Decision) (old new : Outside) (said : Said) → DecisionCause array_tells port_tells estate v old new said → (new ≡ old) ⊎ ((plan : Plan) × IsTestOutcome array_tells port_tells estate plan old new said)
+same_by_decision array_tells port_tells estate (Refuse refusal) old new said cause = inl cause.same
+same_by_decision array_tells port_tells estate ShowGroups old new said cause = inl cause.same
+same_by_decision array_tells port_tells estate (ShowPlan plan) old new said cause = inl cause.same
+same_by_decision array_tells port_tells estate (Test plan) old new said cause = inr (plan, cause)
+same_by_decision array_tells port_tells estate NotAsked old new said cause = absurd cause
 
 -- a preview touches nothing
-same_by_preview : (array_tells port_tells : Type 0) (estate : Estate) (name : List ℕ) (found : Option Plan) (old new : Site) (said : Said) → VerdictCause array_tells port_tells estate (preview_verdict name found) old new said → new ≡ old
+same_by_preview : (array_tells port_tells : Type 0) (estate : Estate) (name : List ℕ) (found : Option Plan) (old new : Outside) (said : Said) → DecisionCause array_tells port_tells estate (preview_decision name found) old new said → new ≡ old
 same_by_preview array_tells port_tells estate name None old new said cause = cause.same
 same_by_preview array_tells port_tells estate name (Some plan) old new said cause = cause.same
 
 -- nor does any report
-same_by_report : (array_tells port_tells : Type 0) (command : Command) (reading : Result Declared DeclaredFault) (old new : Site) (said : Said) → is_report command ≡ true → ReadingCause array_tells port_tells command reading old new said → new ≡ old
+same_by_report : (array_tells port_tells : Type 0) (command : Command) (reading : Result Declared DeclaredFault) (old new : Outside) (said : Said) → is_report command ≡ true → ReadingCause array_tells port_tells command reading old new said → new ≡ old
 same_by_report array_tells port_tells command (Err fault) old new said is cause = cause.same
 same_by_report array_tells port_tells Groups (Ok declared) old new said is cause = cause.same
 same_by_report array_tells port_tells (Preview name) (Ok declared) old new said is cause = same_by_preview array_tells port_tells declared.estate name (plan_named declared.plans name) old new said cause
 same_by_report array_tells port_tells command (Ok declared) old new said is cause = cc is
 
-module _ (source_tells sink_tells array_tells port_tells : Type 0) (words : List (List ℕ)) (source : Received) (old new : Site) (sink : Sent) (status : ℕ) (marks : List ℕ) (a : Answers source_tells sink_tells array_tells port_tells words source old new sink status marks) where
+module _ (source_tells sink_tells array_tells port_tells : Type 0) (words : List (List ℕ)) (source : Received) (old new : Outside) (sink : Sent) (status : ℕ) (marks : List ℕ) (a : Answers source_tells sink_tells array_tells port_tells words source old new sink status marks) where
   -- the site was not touched, or a plan was tested
-  untouched_or_tested : (new ≡ old) ⊎ ((estate : Estate) × (plan : Plan) × IsTest array_tells port_tells estate plan old new a.said)
+  untouched_or_tested : (new ≡ old) ⊎ ((estate : Estate) × (plan : Plan) × IsTestOutcome array_tells port_tells estate plan old new a.said)
   untouched_or_tested = elim a.is [
     | inl bad ↦ inl bad.says.same
     | inr is ↦ elim is.cause [
@@ -104,13 +104,13 @@ module _ (source_tells sink_tells array_tells port_tells : Type 0) (words : List
     ]
   ]
     where
-      by_reading : (command : Command) (reading : Result Declared DeclaredFault) → ReadingCause array_tells port_tells command reading old new a.said → (new ≡ old) ⊎ ((estate : Estate) × (plan : Plan) × IsTest array_tells port_tells estate plan old new a.said)
+      by_reading : (command : Command) (reading : Result Declared DeclaredFault) → ReadingCause array_tells port_tells command reading old new a.said → (new ≡ old) ⊎ ((estate : Estate) × (plan : Plan) × IsTestOutcome array_tells port_tells estate plan old new a.said)
       by_reading command (Err fault) cause = inl cause.same
-      by_reading command (Ok declared) cause = elim (same_by_verdict array_tells port_tells declared.estate (verdict declared old command) old new a.said cause) [ inl same ↦ inl same | inr tested ↦ inr (declared.estate, tested.0, tested.1) ]
+      by_reading command (Ok declared) cause = elim (same_by_decision array_tells port_tells declared.estate (decision declared old command) old new a.said cause) [ inl same ↦ inl same | inr tested ↦ inr (declared.estate, tested.0, tested.1) ]
 
-  pub bad_words : (place : ℕ) → IsFirstBadWord words place → Gives sink_tells sink status (plain None (BadWords place)) ⊎ IsSilent sink_tells sink status
+  pub bad_words : (place : ℕ) → IsFirstBadWord words place → IsWritten sink_tells sink status (plain None (BadWords place)) ⊎ IsSilent sink_tells sink status
   bad_words place bad = elim a.is [
-    | inl is ↦ inl (subst (Gives sink_tells sink status) (is.says.told ∙ ap (λ p. plain None (BadWords p)) (one_bad_word words is.place place is.bad bad)) a.gives)
+    | inl is ↦ inl (subst (IsWritten sink_tells sink status) (is.says.told ∙ ap (λ p. plain None (BadWords p)) (one_bad_word words is.place place is.bad bad)) a.gives)
     | inr is ↦ absurd (no_bad_word words is.command place is.is_command bad)
   ]
 
@@ -169,30 +169,30 @@ module _ (source_tells sink_tells array_tells port_tells : Type 0) (words : List
     -- unless a read failed or memory was wanting, this was said
     pub refused : (due : Said) → refusal_due reading old command ≡ Some due → Says sink_tells source sink status due
     refused due is = elim located [
-      | inl failed ↦ inr (inl (failed.rose, subst (Gives sink_tells sink status) failed.says.told a.gives))
+      | inl failed ↦ inr (inl (failed.rose, subst (IsWritten sink_tells sink status) failed.says.told a.gives))
       | inr rest ↦ elim rest [
-        | inl lacked ↦ inr (inr (inl (subst (Gives sink_tells sink status) lacked.told a.gives)))
-        | inr cause ↦ inl (subst (Gives sink_tells sink status) (due_of_reading array_tells port_tells command reading old new a.said due is cause) a.gives)
+        | inl lacked ↦ inr (inr (inl (subst (IsWritten sink_tells sink status) lacked.told a.gives)))
+        | inr cause ↦ inl (subst (IsWritten sink_tells sink status) (due_of_reading array_tells port_tells command reading old new a.said due is cause) a.gives)
       ]
     ]
 
   -- what was said where the words and the input come to this
-  module _ (t : source_tells) (estate : Estate) (wanted : Verdict) (comes : ComesTo words (looked_at source.before) old estate wanted) where
-    pub come : IsReadFailed source old new a.said ⊎ OrLacked old new a.said (VerdictCause array_tells port_tells estate wanted old new a.said)
+  module _ (t : source_tells) (estate : Estate) (wanted : Decision) (comes : ComesTo words (looked_at source.before) old estate wanted) where
+    pub come : IsReadFailed source old new a.said ⊎ OrLacked old new a.said (DecisionCause array_tells port_tells estate wanted old new a.said)
     come = elim (located t comes.command comes.is_command (Ok comes.declared) comes.declares) [
       | inl failed ↦ inl failed
       | inr rest ↦ elim rest [
         | inl lacked ↦ inr (inl lacked)
-        | inr cause ↦ inr (inr (subst (λ e. VerdictCause array_tells port_tells e wanted old new a.said) comes.estate_is (subst (λ v. VerdictCause array_tells port_tells comes.declared.estate v old new a.said) comes.verdict_is cause)))
+        | inr cause ↦ inr (inr (subst (λ e. DecisionCause array_tells port_tells e wanted old new a.said) comes.estate_is (subst (λ v. DecisionCause array_tells port_tells comes.declared.estate v old new a.said) comes.decision_is cause)))
       ]
     ]
 
-    showing : (Tells : List ℕ → Type 0) → (VerdictCause array_tells port_tells estate wanted old new a.said → ShowsOnly old new a.said Tells) → Shows sink_tells source sink status Tells
+    showing : (Tells : List ℕ → Type 0) → (DecisionCause array_tells port_tells estate wanted old new a.said → ShowsOnly old new a.said Tells) → Shows sink_tells source sink status Tells
     showing Tells shows = elim come [
-      | inl failed ↦ inr (inl (failed.rose, subst (Gives sink_tells sink status) failed.says.told a.gives))
+      | inl failed ↦ inr (inl (failed.rose, subst (IsWritten sink_tells sink status) failed.says.told a.gives))
       | inr rest ↦ elim rest [
-        | inl lacked ↦ inr (inr (inl (subst (Gives sink_tells sink status) lacked.told a.gives)))
-        | inr cause ↦ (let is = shows cause in inl (is.is_shown.0, is.is_shown.1, subst (Gives sink_tells sink status) is.is_shown.2 a.gives))
+        | inl lacked ↦ inr (inr (inl (subst (IsWritten sink_tells sink status) lacked.told a.gives)))
+        | inr cause ↦ (let is = shows cause in inl (is.is_shown.0, is.is_shown.1, subst (IsWritten sink_tells sink status) is.is_shown.2 a.gives))
       ]
     ]
 
@@ -205,7 +205,7 @@ module _ (source_tells sink_tells array_tells port_tells : Type 0) (words : List
   -- a test was asked for
   module _ (t : source_tells) (estate : Estate) (plan : Plan) (asks : AsksToTest words (looked_at source.before) old estate plan) where
     -- nothing was called, or the plan was tested
-    came : (new ≡ old) ⊎ IsTest array_tells port_tells estate plan old new a.said
+    came : (new ≡ old) ⊎ IsTestOutcome array_tells port_tells estate plan old new a.said
     came = elim (come t estate (Test plan) asks) [
       | inl failed ↦ inl failed.says.same
       | inr rest ↦ elim rest [ inl lacked ↦ inl lacked.same | inr test ↦ inr test ]
@@ -218,7 +218,7 @@ module _ (source_tells sink_tells array_tells port_tells : Type 0) (words : List
     ]
 
     pub no_pairs : length plan.pairs ≡ 0 → new.array ≡ old.array
-    no_pairs none = elim came [ inl same ↦ ap (λ (s : Site). s.array) same | inr test ↦ test.no_pairs none ]
+    no_pairs none = elim came [ inl same ↦ ap (λ (s : Outside). s.array) same | inr test ↦ test.no_pairs none ]
 
     pub in_order : AreInOrder estate plan old.machine → port_tells → HasOpeningMachines old → AreInOrder estate plan new.machine
     in_order rest pt opening = elim came [
@@ -227,7 +227,7 @@ module _ (source_tells sink_tells array_tells port_tells : Type 0) (words : List
     ]
 
     -- at these statuses the plan was tested
-    tested_at : (n : ℕ) → status ≡ n → (n ≡ 9 → ⊥) → (n ≡ 10 → ⊥) → (n ≡ 11 → ⊥) → IsTest array_tells port_tells estate plan old new a.said × (status_of a.said.answer ≡ n)
+    tested_at : (n : ℕ) → status ≡ n → (n ≡ 9 → ⊥) → (n ≡ 10 → ⊥) → (n ≡ 11 → ⊥) → IsTestOutcome array_tells port_tells estate plan old new a.said × (status_of a.said.answer ≡ n)
     tested_at n is nine ten eleven = elim a.gives [
       | inr cut ↦ absurd (ten (sym is ∙ cut.status_is))
       | inl told ↦ elim (come t estate (Test plan) asks) [
@@ -285,11 +285,11 @@ module _ (source_tells sink_tells array_tells port_tells : Type 0) (words : List
       done_only (Foreign (Machine k) wanted found) cause = absurd (cause.foreign pt machines)
       done_only answer cause = absurd cause
 
-      pub complete : Gives sink_tells sink status (plain None (Done 1)) ⊎ LacksMemory sink_tells sink status
+      pub complete : IsWritten sink_tells sink status (plain None (Done 1)) ⊎ LacksMemory sink_tells sink status
       complete = elim (come t estate (Test plan) asks) [
         | inl failed ↦ absurd (none.source_faults failed.rose)
         | inr rest ↦ elim rest [
-          | inl lacked ↦ inr (inl (subst (Gives sink_tells sink status) lacked.told a.gives))
-          | inr test ↦ inl (subst (Gives sink_tells sink status) (test.told ∙ ap (plain (Some estate)) (done_only a.said.answer test.cause)) a.gives)
+          | inl lacked ↦ inr (inl (subst (IsWritten sink_tells sink status) lacked.told a.gives))
+          | inr test ↦ inl (subst (IsWritten sink_tells sink status) (test.told ∙ ap (plain (Some estate)) (done_only a.said.answer test.cause)) a.gives)
         ]
       ]

@@ -12,14 +12,14 @@ use Rattle.dr_declared.specs.declared.contents.DeclaredFault.{DeclaredFault}
 use Rattle.dr_declared.specs.declared.contents.DeclaredFault.TheVariants as faults
 use Rattle.dr_declared.specs.Contents.{Declares}
 use Rattle.dr_declared.specs.Faults.{IsFirstFaultOf}
-use Rattle.dr_testing.specs.Tests.{Site, CallsNothing, HasOpeningMachines, HasOpeningPairs, TestCause, PairsDone, MachinesDone, KeepsPairs, KeepsMachines, AreInOrder}
+use Rattle.dr_testing.specs.Tests.{Outside, CallsNothing, HasOpeningMachines, HasOpeningPairs, TestCause, PairsDone, MachinesDone, KeepsPairs, KeepsMachines, AreInOrder}
 use Rattle.dr_report.specs.Reports.{TellsGroups}
-use Rattle.dr_desk.specs.Calls.{Said, IsTest, IsShown, OrLacks, OrLacked, PreviewCause, VerdictCause, IsInputAnswer, plain}
+use Rattle.dr_desk.specs.Calls.{Said, IsTestOutcome, IsShown, OrLacks, OrLacked, PreviewCause, DecisionCause, IsInputAnswer, plain}
 use Rattle.dr_desk.specs.Faults.{fault_answer, fault_estate}
-use Rattle.dr_desk.specs.Verdicts.{needs_unbuilt, preview_verdict, slots_verdict, test_verdict, verdict, ShowGroups}
+use Rattle.dr_desk.specs.Decisions.{needs_unbuilt, preview_decision, slots_decision, test_decision, decision, ShowGroups}
 use Rattle.dr_desk.proofs.AnswerLaws.{slots_cause}
 
-module _ (array_tells port_tells : Type 0) (estate : Estate) (old new : Site) (said : Said) where
+module _ (array_tells port_tells : Type 0) (estate : Estate) (old new : Outside) (said : Said) where
   -- a test of a plan that needs nothing unbuilt
   pub built_said : (plan : Plan) (answer : Answer) → said ≡ plain (Some estate) answer → TestCause array_tells port_tells estate plan old new answer → CallsNothing old new answer
       → (length plan.pairs ≡ 0 → new.array ≡ old.array)
@@ -28,9 +28,9 @@ module _ (array_tells port_tells : Type 0) (estate : Estate) (old new : Site) (s
       → (port_tells → HasOpeningMachines old → MachinesDone estate plan old.machine new.machine answer)
       → (port_tells → KeepsMachines plan old.machine new.machine)
       → (port_tells → HasOpeningMachines old → AreInOrder estate plan new.machine)
-      → OrLacked old new said (VerdictCause array_tells port_tells estate (slots_verdict estate plan old) old new said)
+      → OrLacked old new said (DecisionCause array_tells port_tells estate (slots_decision estate plan old) old new said)
   built_said plan answer told cause nothing no_pairs pairs_done pairs_kept machines_done machines_kept order =
-      slots_cause array_tells port_tells estate plan old new answer said told cause nothing (λ run. subst (IsTest array_tells port_tells estate plan old new) (sym told) (record {
+      slots_cause array_tells port_tells estate plan old new answer said told cause nothing (λ run. subst (IsTestOutcome array_tells port_tells estate plan old new) (sym told) (record {
         cause = run;
         told = refl;
         no_pairs = no_pairs;
@@ -43,29 +43,29 @@ module _ (array_tells port_tells : Type 0) (estate : Estate) (old new : Site) (s
 
   -- a test under a name, of the plan that has it
   module _ (name : List ℕ) (found : Option Plan) where
-    pub unknown_said : new ≡ old → found ≡ None → said ≡ plain (Some estate) (Refused (UnknownPlan name)) → OrLacked old new said (VerdictCause array_tells port_tells estate (test_verdict estate name old found) old new said)
-    unknown_said same none told = inr (subst (λ o. VerdictCause array_tells port_tells estate (test_verdict estate name old o) old new said) (sym none) (record { same = same; told = told }))
+    pub unknown_said : new ≡ old → found ≡ None → said ≡ plain (Some estate) (Refused (UnknownPlan name)) → OrLacked old new said (DecisionCause array_tells port_tells estate (test_decision estate name old found) old new said)
+    unknown_said same none told = inr (subst (λ o. DecisionCause array_tells port_tells estate (test_decision estate name old o) old new said) (sym none) (record { same = same; told = told }))
 
-    pub unbuilt_said : (plan : Plan) → new ≡ old → found ≡ Some plan → needs_unbuilt estate plan ≡ true → said ≡ plain (Some estate) (Refused (NotBuilt name)) → OrLacked old new said (VerdictCause array_tells port_tells estate (test_verdict estate name old found) old new said)
-    unbuilt_said plan same some needs told = inr (subst (λ o. VerdictCause array_tells port_tells estate (test_verdict estate name old o) old new said) (sym some) (rw needs (record { same = same; told = told })))
+    pub unbuilt_said : (plan : Plan) → new ≡ old → found ≡ Some plan → needs_unbuilt estate plan ≡ true → said ≡ plain (Some estate) (Refused (NotBuilt name)) → OrLacked old new said (DecisionCause array_tells port_tells estate (test_decision estate name old found) old new said)
+    unbuilt_said plan same some needs told = inr (subst (λ o. DecisionCause array_tells port_tells estate (test_decision estate name old o) old new said) (sym some) (rw needs (record { same = same; told = told })))
 
-    pub found_said : (plan : Plan) → found ≡ Some plan → needs_unbuilt estate plan ≡ false → OrLacked old new said (VerdictCause array_tells port_tells estate (slots_verdict estate plan old) old new said) → OrLacked old new said (VerdictCause array_tells port_tells estate (test_verdict estate name old found) old new said)
-    found_said plan some needs rest = subst (λ o. OrLacked old new said (VerdictCause array_tells port_tells estate (test_verdict estate name old o) old new said)) (sym some) (rw needs rest)
+    pub found_said : (plan : Plan) → found ≡ Some plan → needs_unbuilt estate plan ≡ false → OrLacked old new said (DecisionCause array_tells port_tells estate (slots_decision estate plan old) old new said) → OrLacked old new said (DecisionCause array_tells port_tells estate (test_decision estate name old found) old new said)
+    found_said plan some needs rest = subst (λ o. OrLacked old new said (DecisionCause array_tells port_tells estate (test_decision estate name old o) old new said)) (sym some) (rw needs rest)
 
   -- a report touches nothing
-  pub preview_said : (name : List ℕ) (found : Option Plan) → new ≡ old → OrLacks said (PreviewCause estate name found said) → OrLacked old new said (VerdictCause array_tells port_tells estate (preview_verdict name found) old new said)
+  pub preview_said : (name : List ℕ) (found : Option Plan) → new ≡ old → OrLacks said (PreviewCause estate name found said) → OrLacked old new said (DecisionCause array_tells port_tells estate (preview_decision name found) old new said)
   preview_said name None same (inl lacks) = inl (record { same = same; told = lacks })
   preview_said name None same (inr told) = inr (record { same = same; told = told })
   preview_said name (Some plan) same (inl lacks) = inl (record { same = same; told = lacks })
   preview_said name (Some plan) same (inr is) = inr (record { same = same; is_shown = is })
 
-  pub groups_said : new ≡ old → OrLacks said (IsShown (TellsGroups estate) said) → OrLacked old new said (VerdictCause array_tells port_tells estate ShowGroups old new said)
+  pub groups_said : new ≡ old → OrLacks said (IsShown (TellsGroups estate) said) → OrLacked old new said (DecisionCause array_tells port_tells estate ShowGroups old new said)
   groups_said same (inl lacks) = inl (record { same = same; told = lacks })
   groups_said same (inr is) = inr (record { same = same; is_shown = is })
 
 -- an input that declares something
-module _ (array_tells port_tells : Type 0) (command : Command) (input : List ℕ) (old new : Site) (said : Said) where
-  pub declared_said : (declared : Declared) → Declares input declared → OrLacked old new said (VerdictCause array_tells port_tells declared.estate (verdict declared old command) old new said)
+module _ (array_tells port_tells : Type 0) (command : Command) (input : List ℕ) (old new : Outside) (said : Said) where
+  pub declared_said : (declared : Declared) → Declares input declared → OrLacked old new said (DecisionCause array_tells port_tells declared.estate (decision declared old command) old new said)
       → OrLacked old new said (IsInputAnswer array_tells port_tells command input old new said)
   declared_said declared is (inl lacked) = inl lacked
   declared_said declared is (inr cause) = inr (record { reading = Ok declared; is_reading = is; cause = cause })

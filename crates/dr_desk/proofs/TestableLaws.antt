@@ -26,7 +26,7 @@ use Rattle.dr_declared.proofs.UniqueLaws.{text_sound}
 use Rattle.dr_testing.specs.Placing.{IsPlaced}
 use Rattle.dr_testing.specs.Tests.{IsTestable}
 use Rattle.dr_report.specs.Texts.{machine_names}
-use Rattle.dr_desk.specs.Verdicts.{needs_unbuilt, has_command, protects_b, row_protects_b}
+use Rattle.dr_desk.specs.Decisions.{needs_unbuilt, has_command, protects_b, row_protects_b}
 
 -- nothing first and nothing second
 first_none : {X : Type 0} (a b : Option X) → option_or a b ≡ None → a ≡ None

@@ -5,7 +5,7 @@ use Rattle.dr_base.specs.declared.command.Command.{Command}
 use Rattle.dr_base.specs.declared.command.Command.TheVariants.{Run, Preview, Groups}
 use Rattle.dr_base.specs.declared.command.Op.{Op}
 use Rattle.dr_base.specs.declared.command.RunWords.{RunWords}
-use Rattle.dr_desk.specs.Words.{IsAsked, IsCommand, IsFirstBadWord, IsOfWords, IsTest}
+use Rattle.dr_desk.specs.Words.{IsAsked, IsCommand, IsFirstBadWord, IsOfWords, AreTestWords}
 
 -- words of a command have no bad place
 pub no_bad_word : (words : List (List ℕ)) (command : Command) (place : ℕ) → IsCommand words command → IsFirstBadWord words place → ⊥
@@ -34,7 +34,7 @@ abbrev made : Op → List ℕ → List ℕ → Bool → RunWords
 made op plan id forced = record { op = op; plan = plan; id = id; forced = forced }
 
 -- the run is one
-one_run : (words : List (List ℕ)) (r s : RunWords) → IsTest words r → IsTest words s → r ≡ s
+one_run : (words : List (List ℕ)) (r s : RunWords) → AreTestWords words r → AreTestWords words s → r ≡ s
 one_run words r s a b =
     ap (λ op. made op r.plan r.id r.forced) (a.op ∙ sym b.op)
     ∙ ap (λ plan. made s.op plan r.id r.forced) (a.plan ∙ sym b.plan)

@@ -1,6 +1,6 @@
 pub mod Calls
+pub mod Decisions
 pub mod Faults
 pub mod Rooms
 pub mod Streams
-pub mod Verdicts
 pub mod Words

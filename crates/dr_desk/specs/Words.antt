@@ -33,7 +33,7 @@ pub record AreCommandWords (words : List (List ℕ)) : Type 0 where
   pub stands : (place : ℕ) → place < length words → may_stand words place ≡ true
 
 -- a test of this plan under this id
-pub record IsTest (words : List (List ℕ)) (run : RunWords) : Type 0 where
+pub record AreTestWords (words : List (List ℕ)) (run : RunWords) : Type 0 where
   pub first : word_at words 0 ≡ codes "test"
   pub op : run.op ≡ Testing
   pub plan : run.plan ≡ word_at words 1
@@ -41,14 +41,14 @@ pub record IsTest (words : List (List ℕ)) (run : RunWords) : Type 0 where
   pub unforced : run.forced ≡ false
 
 -- a preview of this plan
-pub record IsPreview (words : List (List ℕ)) (plan : List ℕ) : Type 0 where
+pub record ArePreviewWords (words : List (List ℕ)) (plan : List ℕ) : Type 0 where
   pub first : word_at words 0 ≡ codes "preview"
   pub plan_is : plan ≡ word_at words 1
 
 -- which command its words are
 abbrev pub IsOfWords : List (List ℕ) → Command → Type 0
-IsOfWords words (Run run) = IsTest words run
-IsOfWords words (Preview plan) = IsPreview words plan
+IsOfWords words (Run run) = AreTestWords words run
+IsOfWords words (Preview plan) = ArePreviewWords words plan
 IsOfWords words Groups = word_at words 0 ≡ codes "groups"
 IsOfWords words _ = ⊥
 

@@ -4,12 +4,12 @@ ghost use Rattle.std.specs.Prelude.{◌≡◌, ◌≤◌, ℕ, [], map, string_b
 ghost use Rattle.dr_base.specs.declared.answer.Answer.TheVariants as answers;
 ghost use Rattle.dr_base.specs.declared.command.Op.TheVariants.{Testing};
 ghost use Rattle.dr_declared.specs.Contents.{IsDeclared};
-ghost use Rattle.dr_testing.specs.Tests.{site, IsTestable};
+ghost use Rattle.dr_testing.specs.Tests.{outside, IsTestable};
 ghost use Rattle.dr_report.specs.Conditions.{HidesNoAnswer, HoldsNumbersOf};
-ghost use Rattle.dr_desk.specs.Calls.{received, said_by, plain, IsAnswer, IsInputAnswer, OrLacked, OrLacks, PreviewCause, VerdictCause};
+ghost use Rattle.dr_desk.specs.Calls.{received, said_by, plain, IsAnswer, IsInputAnswer, OrLacked, OrLacks, PreviewCause, DecisionCause};
 ghost use Rattle.dr_desk.specs.Faults.{fault_answer, fault_estate, protection_answer};
 ghost use Rattle.dr_desk.specs.Streams.{ReadsNoFurther};
-ghost use Rattle.dr_desk.specs.Verdicts as verdicts;
+ghost use Rattle.dr_desk.specs.Decisions as decisions;
 ghost use Rattle.dr_desk.specs.Words.{IsAsked, IsFirstBadWord};
 
 use crate::input::{ReadFail, read_input};
@@ -36,11 +36,11 @@ fn answer_built<A: Array, P: Port>(
     requires testable { IsTestable estate.now plan.now }
     requires empty { text.old.items ≡ [] }
     requires room { 1024 ≤ vec_capacity text.old }
-    ensures { OrLacked (site A.state P.state array.old ports.old) (site A.state P.state array.new ports.new)
+    ensures { OrLacked (outside A.state P.state array.old ports.old) (outside A.state P.state array.new ports.new)
         (said_by result text.new.items)
-        (VerdictCause A.tells P.tells estate.now
-        (verdicts.slots_verdict estate.now plan.now (site A.state P.state array.old ports.old))
-        (site A.state P.state array.old ports.old) (site A.state P.state array.new ports.new)
+        (DecisionCause A.tells P.tells estate.now
+        (decisions.slots_decision estate.now plan.now (outside A.state P.state array.old ports.old))
+        (outside A.state P.state array.old ports.old) (outside A.state P.state array.new ports.new)
         (said_by result text.new.items)) }
 {
     let answer = test_plan(alloc, array, ports, estate, plan);
@@ -49,7 +49,7 @@ fn answer_built<A: Array, P: Port>(
 
 // Refuses a command with names of the estate.
 fn refuse(estate: &Estate, refusal: Refusal, text: &mut Vec<u8>) -> Answer
-    requires plain { verdicts.IsPlainRefusal refusal }
+    requires plain { decisions.IsPlainRefusal refusal }
     requires empty { text.old.items ≡ [] }
     requires room { 1024 ≤ vec_capacity text.old }
     ensures { said_by result text.new.items ≡ plain (Some estate.now) (answers.Refused refusal) }
@@ -69,12 +69,12 @@ fn answer_test<A: Array, P: Port>(
     requires declared { IsDeclared declared.now }
     requires empty { text.old.items ≡ [] }
     requires room { 1024 ≤ vec_capacity text.old }
-    ensures { OrLacked (site A.state P.state array.old ports.old) (site A.state P.state array.new ports.new)
+    ensures { OrLacked (outside A.state P.state array.old ports.old) (outside A.state P.state array.new ports.new)
         (said_by result text.new.items)
-        (VerdictCause A.tells P.tells declared.now.estate
-        (verdicts.test_verdict declared.now.estate name (site A.state P.state array.old ports.old)
-        (verdicts.plan_named declared.now.plans name))
-        (site A.state P.state array.old ports.old) (site A.state P.state array.new ports.new)
+        (DecisionCause A.tells P.tells declared.now.estate
+        (decisions.test_decision declared.now.estate name (outside A.state P.state array.old ports.old)
+        (decisions.plan_named declared.now.plans name))
+        (outside A.state P.state array.old ports.old) (outside A.state P.state array.new ports.new)
         (said_by result text.new.items)) }
 {
     let estate = &declared.estate;
@@ -100,11 +100,11 @@ fn answer_run<A: Array, P: Port>(
     requires declared { IsDeclared declared.now }
     requires empty { text.old.items ≡ [] }
     requires room { 1024 ≤ vec_capacity text.old }
-    ensures { OrLacked (site A.state P.state array.old ports.old) (site A.state P.state array.new ports.new)
+    ensures { OrLacked (outside A.state P.state array.old ports.old) (outside A.state P.state array.new ports.new)
         (said_by result text.new.items)
-        (VerdictCause A.tells P.tells declared.now.estate
-        (verdicts.run_verdict declared.now (site A.state P.state array.old ports.old) run.now.plan run.now.op)
-        (site A.state P.state array.old ports.old) (site A.state P.state array.new ports.new)
+        (DecisionCause A.tells P.tells declared.now.estate
+        (decisions.run_decision declared.now (outside A.state P.state array.old ports.old) run.now.plan run.now.op)
+        (outside A.state P.state array.old ports.old) (outside A.state P.state array.new ports.new)
         (said_by result text.new.items)) }
 {
     match run.op {
@@ -119,7 +119,7 @@ fn answer_preview(alloc: Global, declared: &Declared, name: Name, text: &mut Vec
     requires empty { text.old.items ≡ [] }
     requires room { 1024 ≤ vec_capacity text.old }
     ensures { OrLacks (said_by result text.new.items)
-        (PreviewCause declared.now.estate name (verdicts.plan_named declared.now.plans name)
+        (PreviewCause declared.now.estate name (decisions.plan_named declared.now.plans name)
         (said_by result text.new.items)) }
 {
     let estate = &declared.estate;
@@ -142,11 +142,11 @@ fn answer_command<A: Array, P: Port>(
     requires declared { IsDeclared declared.now }
     requires empty { text.old.items ≡ [] }
     requires room { 1024 ≤ vec_capacity text.old }
-    ensures { OrLacked (site A.state P.state array.old ports.old) (site A.state P.state array.new ports.new)
+    ensures { OrLacked (outside A.state P.state array.old ports.old) (outside A.state P.state array.new ports.new)
         (said_by result text.new.items)
-        (VerdictCause A.tells P.tells declared.now.estate
-        (verdicts.verdict declared.now (site A.state P.state array.old ports.old) command.now)
-        (site A.state P.state array.old ports.old) (site A.state P.state array.new ports.new)
+        (DecisionCause A.tells P.tells declared.now.estate
+        (decisions.decision declared.now (outside A.state P.state array.old ports.old) command.now)
+        (outside A.state P.state array.old ports.old) (outside A.state P.state array.new ports.new)
         (said_by result text.new.items)) }
 {
     match command {
@@ -206,10 +206,10 @@ fn answer_input<A: Array, P: Port>(
     requires asked { IsAsked command.now }
     requires empty { text.old.items ≡ [] }
     requires room { 1024 ≤ vec_capacity text.old }
-    ensures { OrLacked (site A.state P.state array.old ports.old) (site A.state P.state array.new ports.new)
+    ensures { OrLacked (outside A.state P.state array.old ports.old) (outside A.state P.state array.new ports.new)
         (said_by result text.new.items)
         (IsInputAnswer A.tells P.tells command.now input.now
-        (site A.state P.state array.old ports.old) (site A.state P.state array.new ports.new)
+        (outside A.state P.state array.old ports.old) (outside A.state P.state array.new ports.new)
         (said_by result text.new.items)) }
 {
     match read_declared(alloc, input) {
@@ -231,8 +231,8 @@ pub(crate) fn answer_words<A: Array, P: Port, S: Source>(
     requires empty { text.old.items ≡ [] }
     requires room { 1024 ≤ vec_capacity text.old }
     ensures answer { IsAnswer S.tells A.tells P.tells (map string_bytes words.now)
-        (received S.left S.faults source.old source.new) (site A.state P.state array.old ports.old)
-        (site A.state P.state array.new ports.new) (said_by result text.new.items) }
+        (received S.left S.faults source.old source.new) (outside A.state P.state array.old ports.old)
+        (outside A.state P.state array.new ports.new) (said_by result text.new.items) }
     ensures reads { S.tells → ReadsNoFurther (S.left source.old) (S.left source.new) }
     ensures unread { (place : ℕ) → IsFirstBadWord (map string_bytes words.now) place
         → source.new ≡ source.old }

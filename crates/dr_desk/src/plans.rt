@@ -2,7 +2,7 @@
 
 ghost use Rattle.std.specs.Prelude.{◌≡◌, option_copied};
 ghost use Rattle.std.specs.List.{list_any};
-ghost use Rattle.dr_desk.specs.Verdicts.{has_command, needs_unbuilt, plan_named, protects_b};
+ghost use Rattle.dr_desk.specs.Decisions.{has_command, needs_unbuilt, plan_named, protects_b};
 
 use dr_base::{Name, Side};
 use dr_inventory::Estate;

@@ -3,7 +3,7 @@
 ghost use Rattle.std.specs.Prelude.{◌≡◌, ◌≤◌, [], vec_capacity, None, IsOk};
 ghost use Rattle.std.specs.Option.{option_copied};
 ghost use Rattle.dr_base.specs.declared.answer.Answer.TheVariants.{NoMemory as LacksMemory};
-ghost use Rattle.dr_inventory.specs.Sound.{IsSound};
+ghost use Rattle.dr_inventory.specs.Sound.{IsSoundEstate};
 ghost use Rattle.dr_report.specs.Conditions.{HidesNoAnswer, HoldsNumbersOf, IsShort};
 ghost use Rattle.dr_report.specs.Reports.{HoldsMachinesOf, TellsGroups, preview_text_of};
 ghost use Rattle.dr_desk.specs.Calls.{IsShown, OrLacks, plain, said_by, shown};
@@ -57,7 +57,7 @@ fn tell_report(mut report: Vec<u8>, text: &mut Vec<u8>) -> Answer
 
 /// Shows the datastores with their datastore groups.
 pub(crate) fn show_groups(alloc: Global, estate: &Estate, text: &mut Vec<u8>) -> Answer
-    requires sound { IsSound estate.now }
+    requires sound { IsSoundEstate estate.now }
     requires empty { text.old.items ≡ [] }
     requires room { 1024 ≤ vec_capacity text.old }
     ensures { OrLacks (said_by result text.new.items)

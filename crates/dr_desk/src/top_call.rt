@@ -7,12 +7,12 @@ ghost use Rattle.dr_declared.specs.declared.contents.Declared.{Declared};
 ghost use Rattle.dr_declared.specs.declared.contents.DeclaredFault.{DeclaredFault};
 ghost use Rattle.dr_declared.specs.Faults.{IsReading};
 ghost use Rattle.dr_outside.specs.Machines.{machine_at};
-ghost use Rattle.dr_testing.specs.Tests.{site, AreInOrder, AreTestedByGroup, AreTestedPairs, HasOpeningPairs, HasOpeningMachines};
+ghost use Rattle.dr_testing.specs.Tests.{outside, AreInOrder, AreTestedByGroup, AreTestedPairs, HasOpeningPairs, HasOpeningMachines};
 ghost use Rattle.dr_report.specs.Reports.{TellsGroups, preview_text_of};
-ghost use Rattle.dr_desk.specs.Calls.{received, sent, said_by, plain, refusal_due, Said, Answered, Answers, AsksToTest, ComesTo, Gives, IsSilent, IsTested, KeepsOthers, KeepsProtected, LacksMemory, NoneRose, Says, Shows, is_refusal};
+ghost use Rattle.dr_desk.specs.Calls.{received, sent, said_by, plain, refusal_due, Said, Answered, Answers, AsksToTest, ComesTo, IsWritten, IsSilent, IsTested, KeepsOthers, KeepsProtected, LacksMemory, NoneRose, Says, Shows, is_refusal};
 ghost use Rattle.dr_desk.specs.Rooms.{IsRoom};
 ghost use Rattle.dr_desk.specs.Streams.{looked_at, ReadsNoFurther};
-ghost use Rattle.dr_desk.specs.Verdicts.{ShowGroups, ShowPlan};
+ghost use Rattle.dr_desk.specs.Decisions.{ShowGroups, ShowPlan};
 ghost use Rattle.dr_desk.specs.Words.{IsCommand, IsFirstBadWord, is_report};
 
 use crate::answering::answer_words;
@@ -58,7 +58,7 @@ fn one_mark(mut marks: Vec<u32>) -> Rows<u32>
 fn respond<K: Sink>(marks: Vec<u32>, text: &[u8], answer: &Answer, sink: &mut K) -> Ended
     requires empty { marks.items ≡ [] }
     requires room { 1 ≤ vec_capacity marks }
-    ensures gives { Gives K.tells (sent K.taken K.faults sink.old sink.new) result.status
+    ensures gives { IsWritten K.tells (sent K.taken K.faults sink.old sink.new) result.status
         (said_by answer.now text.now) }
     ensures marks { result.marks ≡ 0 ∷ [] }
 {
@@ -84,8 +84,8 @@ fn answer_in<A: Array, P: Port, S: Source, K: Sink>(
 ) -> Ended
     requires room { IsRoom room }
     ensures answers { Answers S.tells K.tells A.tells P.tells (map string_bytes words.now)
-        (received S.left S.faults source.old source.new) (site A.state P.state array.old ports.old.items)
-        (site A.state P.state array.new ports.new.items)
+        (received S.left S.faults source.old source.new) (outside A.state P.state array.old ports.old.items)
+        (outside A.state P.state array.new ports.new.items)
         (sent K.taken K.faults sink.old sink.new) result.status result.marks }
     ensures reads { S.tells → ReadsNoFurther (S.left source.old) (S.left source.new) }
     ensures unread { (place : ℕ) → IsFirstBadWord (map string_bytes words.now) place
@@ -114,95 +114,95 @@ pub fn desk<A: Array, P: Port, S: Source, K: Sink>(
     // What is said: the status, the bytes written, the mark, and the cause of each answer.
     ensures answered { Answered S.tells K.tells A.tells P.tells (map string_bytes words.now)
         (received S.left S.faults source.old source.new)
-        (site A.state P.state array.old ports.old.items) (site A.state P.state array.new ports.new.items)
+        (outside A.state P.state array.old ports.old.items) (outside A.state P.state array.new ports.new.items)
         (sent K.taken K.faults sink.old sink.new) result.status result.marks }
     ensures bad_words { (place : ℕ) → IsFirstBadWord (map string_bytes words.now) place
-        → Gives K.tells (sent K.taken K.faults sink.old sink.new) result.status (plain None (BadWords place))
+        → IsWritten K.tells (sent K.taken K.faults sink.old sink.new) result.status (plain None (BadWords place))
         ⊎ IsSilent K.tells (sent K.taken K.faults sink.old sink.new) result.status }
 
     // The refusal that is due comes: the first fault of the estate, of its groups, plans and maps; an
     // unknown plan; a plan that needs what isn't built; too few machines, too few pairs.
     ensures refused { S.tells → (command : Command) → IsCommand (map string_bytes words.now) command
         → (reading : Result Declared DeclaredFault) → IsReading (looked_at (S.left source.old)) reading
-        → (due : Said) → refusal_due reading (site A.state P.state array.old ports.old.items) command ≡ Some due
+        → (due : Said) → refusal_due reading (outside A.state P.state array.old ports.old.items) command ≡ Some due
         → Says K.tells (received S.left S.faults source.old source.new)
         (sent K.taken K.faults sink.old sink.new) result.status due }
 
     // Where nothing refuses, a report is shown.
     ensures groups_shown { S.tells → (estate : Estate)
         → ComesTo (map string_bytes words.now) (looked_at (S.left source.old))
-        (site A.state P.state array.old ports.old.items) estate ShowGroups
+        (outside A.state P.state array.old ports.old.items) estate ShowGroups
         → Shows K.tells (received S.left S.faults source.old source.new)
         (sent K.taken K.faults sink.old sink.new) result.status (TellsGroups estate) }
     ensures plan_shown { S.tells → (estate : Estate) (plan : Plan)
         → ComesTo (map string_bytes words.now) (looked_at (S.left source.old))
-        (site A.state P.state array.old ports.old.items) estate (ShowPlan plan)
+        (outside A.state P.state array.old ports.old.items) estate (ShowPlan plan)
         → Shows K.tells (received S.left S.faults source.old source.new)
         (sent K.taken K.faults sink.old sink.new) result.status (λ report. report ≡ preview_text_of estate plan) }
 
     // Where no call failed and nothing refuses, the test is done, or memory was wanting.
     ensures complete { S.tells → A.tells → P.tells → (estate : Estate) (plan : Plan)
         → AsksToTest (map string_bytes words.now) (looked_at (S.left source.old))
-        (site A.state P.state array.old ports.old.items) estate plan
-        → HasOpeningPairs (site A.state P.state array.old ports.old.items)
-        → HasOpeningMachines (site A.state P.state array.old ports.old.items)
+        (outside A.state P.state array.old ports.old.items) estate plan
+        → HasOpeningPairs (outside A.state P.state array.old ports.old.items)
+        → HasOpeningMachines (outside A.state P.state array.old ports.old.items)
         → NoneRose (received S.left S.faults source.old source.new)
-        (site A.state P.state array.old ports.old.items) (site A.state P.state array.new ports.new.items)
+        (outside A.state P.state array.old ports.old.items) (outside A.state P.state array.new ports.new.items)
         (sent K.taken K.faults sink.old sink.new)
-        → Gives K.tells (sent K.taken K.faults sink.old sink.new) result.status (plain None (Done 1))
+        → IsWritten K.tells (sent K.taken K.faults sink.old sink.new) result.status (plain None (Done 1))
         ⊎ LacksMemory K.tells (sent K.taken K.faults sink.old sink.new) result.status }
 
     // At status 0 each pair and machine is as a finished test leaves it.
     ensures done { S.tells → result.status ≡ 0 → (estate : Estate) (plan : Plan)
         → AsksToTest (map string_bytes words.now) (looked_at (S.left source.old))
-        (site A.state P.state array.old ports.old.items) estate plan
-        → IsTested A.tells P.tells estate plan (site A.state P.state array.old ports.old.items)
-        (site A.state P.state array.new ports.new.items) }
+        (outside A.state P.state array.old ports.old.items) estate plan
+        → IsTested A.tells P.tells estate plan (outside A.state P.state array.old ports.old.items)
+        (outside A.state P.state array.new ports.new.items) }
 
     // At a machine's fault too each pair of the plan has its snapshot: it is taken before a machine is
     // touched.
-    ensures snapshots_first { S.tells → A.tells → HasOpeningPairs (site A.state P.state array.old ports.old.items)
+    ensures snapshots_first { S.tells → A.tells → HasOpeningPairs (outside A.state P.state array.old ports.old.items)
         → result.status ≡ 6 → (estate : Estate) (plan : Plan)
         → AsksToTest (map string_bytes words.now) (looked_at (S.left source.old))
-        (site A.state P.state array.old ports.old.items) estate plan
+        (outside A.state P.state array.old ports.old.items) estate plan
         → AreTestedPairs plan (A.state array.old).pair (A.state array.new).pair }
 
     // At an array's fault each consistency group has its snapshots or none, and without pairs the
     // array isn't called.
-    ensures whole_groups { S.tells → A.tells → HasOpeningPairs (site A.state P.state array.old ports.old.items)
+    ensures whole_groups { S.tells → A.tells → HasOpeningPairs (outside A.state P.state array.old ports.old.items)
         → result.status ≡ 5 → (estate : Estate) (plan : Plan)
         → AsksToTest (map string_bytes words.now) (looked_at (S.left source.old))
-        (site A.state P.state array.old ports.old.items) estate plan
+        (outside A.state P.state array.old ports.old.items) estate plan
         → AreTestedByGroup plan (A.state array.old).group (A.state array.old).pair (A.state array.new).pair }
     ensures no_pairs { S.tells → (estate : Estate) (plan : Plan)
         → AsksToTest (map string_bytes words.now) (looked_at (S.left source.old))
-        (site A.state P.state array.old ports.old.items) estate plan
+        (outside A.state P.state array.old ports.old.items) estate plan
         → length plan.pairs ≡ 0 → A.state array.new ≡ A.state array.old }
 
     // At bad words, a refusal, a failed read and want of memory nothing was called, and for a report
     // never is.
     ensures untouched { is_refusal result.status ≡ true
-        → site A.state P.state array.new ports.new.items
-        ≡ site A.state P.state array.old ports.old.items }
+        → outside A.state P.state array.new ports.new.items
+        ≡ outside A.state P.state array.old ports.old.items }
 
     ensures reports { (command : Command) → IsCommand (map string_bytes words.now) command
         → is_report command ≡ true
-        → site A.state P.state array.new ports.new.items
-        ≡ site A.state P.state array.old ports.old.items }
+        → outside A.state P.state array.new ports.new.items
+        ≡ outside A.state P.state array.old ports.old.items }
 
     // At every exit.
     ensures in_order { S.tells → P.tells
-        → HasOpeningMachines (site A.state P.state array.old ports.old.items) → (estate : Estate) (plan : Plan)
+        → HasOpeningMachines (outside A.state P.state array.old ports.old.items) → (estate : Estate) (plan : Plan)
         → AsksToTest (map string_bytes words.now) (looked_at (S.left source.old))
-        (site A.state P.state array.old ports.old.items) estate plan
+        (outside A.state P.state array.old ports.old.items) estate plan
         → AreInOrder estate plan (machine_at P.state ports.new.items) }
     ensures protected_side { KeepsProtected A.tells P.tells
-        (site A.state P.state array.old ports.old.items) (site A.state P.state array.new ports.new.items) }
+        (outside A.state P.state array.old ports.old.items) (outside A.state P.state array.new ports.new.items) }
     ensures others { S.tells → (estate : Estate) (plan : Plan)
         → AsksToTest (map string_bytes words.now) (looked_at (S.left source.old))
-        (site A.state P.state array.old ports.old.items) estate plan
-        → KeepsOthers A.tells P.tells plan (site A.state P.state array.old ports.old.items)
-        (site A.state P.state array.new ports.new.items) }
+        (outside A.state P.state array.old ports.old.items) estate plan
+        → KeepsOthers A.tells P.tells plan (outside A.state P.state array.old ports.old.items)
+        (outside A.state P.state array.new ports.new.items) }
     ensures reads { S.tells → ReadsNoFurther (S.left source.old) (S.left source.new) }
     ensures unread { (place : ℕ) → IsFirstBadWord (map string_bytes words.now) place
         → source.new ≡ source.old }

@@ -1,2 +1,2 @@
-mod Spans
+mod SpanLaws
 mod Written

@@ -3,8 +3,8 @@ use Rattle.std.proofs.Common.{◌≡◌, inl, inr, ℕ, ◌+◌, ◌≤◌, max,
 use Rattle.std.proofs.lemmas.Grind.{common_steps}
 use Rattle.std.proofs.lemmas.List.{length-replicate, places, get_or_past}
 use Rattle.std.proofs.lemmas.Bool.Decides.{nat_tests}
-use Rattle.dr_disk.specs.Changes.{is_within, is_changed, SameOutside}
-use Rattle.dr_disk.specs.declared.changes.Span.{Span}
+use Rattle.dr_disk.specs.Spans.{is_within, is_changed, SameOutside}
+use Rattle.dr_disk.specs.declared.spans.Span.{Span}
 use Rattle.dr_disk.specs.Disk.{written, Torn, Follows}
 use Rattle.dr_disk.specs.Memory.{MemoryDisk, IsImage}
 

@@ -1,4 +1,4 @@
 pub mod Disk
-pub mod Memory
-pub mod Changes
 pub mod Files
+pub mod Memory
+pub mod Spans

@@ -2,10 +2,10 @@
 //! that is a file of the system.
 #![tactic(auto)]
 
-mod changes;
 mod disk;
 mod file_disk;
 mod mem_disk;
+mod spans;
 mod writes;
 
 pub use disk::{Disk, GREATEST_LIMIT};

@@ -4,7 +4,7 @@ ghost use Rattle.dr_base.specs.Causes.{count_after, HasCause};
 ghost use Rattle.dr_disk.specs.Disk.{written, Torn, Cut, NoOther, Follows, OnlyOne};
 ghost use Rattle.dr_disk.specs.Memory.{IsImage, image_of, is_spent, answer_of, after_call, after_read, after_write, after_cut, after_sync};
 
-use crate::changes::{MOST_SPANS, Span, add_span, copy_changes};
+use crate::spans::{MOST_SPANS, Span, add_span, copy_changes};
 use crate::writes::{blot, put};
 use crate::{Disk, GREATEST_LIMIT};
 use dr_base::{Failed, NoMemory};
@@ -33,9 +33,9 @@ pub struct MemDisk {
 
 impl Model for MemDisk {
     ghost use Rattle.std.specs.Prelude.{◌≡◌, ◌≤◌, vec_len, vec_capacity};
-    ghost use Rattle.dr_disk.specs.Changes.{SameOutside};
+    ghost use Rattle.dr_disk.specs.Spans.{SameOutside};
     ghost use Rattle.dr_disk.specs.Memory.{MemoryDisk};
-    ghost use Rattle.dr_disk.specs.declared.changes.TheConstants.{MOST_SPANS};
+    ghost use Rattle.dr_disk.specs.declared.spans.TheConstants.{MOST_SPANS};
     ghost use Rattle.dr_disk.specs.declared.disk.TheConstants.{GREATEST_LIMIT};
 
     ghost Value = { MemoryDisk };

@@ -21,29 +21,29 @@ use Rattle.dr_expected.proofs.ShownLaws.{adds-one, leads-same, shows-push}
 use Rattle.dr_expected.specs.declared.posts.Wanted.{Wanted}
 use Rattle.dr_expected.specs.declared.posts.Spot.{Spot}
 use Rattle.dr_expected.specs.declared.posts.Standing.{Standing}
-use Rattle.dr_expected.specs.Expecting.{Shows, Gains, Adds, Leads}
+use Rattle.dr_expected.specs.Expecting.{HasItemFor, Gains, Adds, Leads}
 use Rattle.dr_expected.specs.Standings.{placed_value, IsAt, IsStanding, stopped_standing, made_standing, start_standings, failed_standings, PostOver, AnyStands, GainsAll, old_kind, new_kind, is_old_sure, is_new_sure, meant_kind, is_sure}
 
 module _ {S X : Type 0} (D : S → X → Type 0) where
   pub gains-none : (list : List S) → GainsAll D [] list list
   gains-none list = record { exactly = λ y. (λ h. inl h, back y) }
     where
-      back : (y : X) → Shows D list y ⊎ ⊥ → Shows D list y
+      back : (y : X) → HasItemFor D list y ⊎ ⊥ → HasItemFor D list y
       back y (inl h) = h
       back y (inr no_one) = absurd no_one
 
   pub gains-more : (s : S) (items before mid after : List S) → Gains D s before mid → GainsAll D items mid after → GainsAll D (s ∷ items) before after
   gains-more s items before mid after first rest = record { exactly = λ y. (λ h. there y ((rest.exactly y).0 h), back y) }
     where
-      early : (y : X) → Shows D before y ⊎ D s y → Shows D before y ⊎ (D s y ⊎ AnyStands D items y)
+      early : (y : X) → HasItemFor D before y ⊎ D s y → HasItemFor D before y ⊎ (D s y ⊎ AnyStands D items y)
       early y (inl h) = inl h
       early y (inr d) = inr (inl d)
 
-      there : (y : X) → Shows D mid y ⊎ AnyStands D items y → Shows D before y ⊎ (D s y ⊎ AnyStands D items y)
+      there : (y : X) → HasItemFor D mid y ⊎ AnyStands D items y → HasItemFor D before y ⊎ (D s y ⊎ AnyStands D items y)
       there y (inl h) = early y ((first.exactly y).0 h)
       there y (inr a) = inr (inr a)
 
-      back : (y : X) → Shows D before y ⊎ (D s y ⊎ AnyStands D items y) → Shows D after y
+      back : (y : X) → HasItemFor D before y ⊎ (D s y ⊎ AnyStands D items y) → HasItemFor D after y
       back y (inl h) = (rest.exactly y).1 (inl ((first.exactly y).1 (inl h)))
       back y (inr (inl d)) = (rest.exactly y).1 (inl ((first.exactly y).1 (inr d)))
       back y (inr (inr a)) = (rest.exactly y).1 (inr a)
@@ -54,11 +54,11 @@ module _ {S X : Type 0} (D : S → X → Type 0) where
   pub adds-all : (R : X → X → Type 0) (s : S) (items before after : List S) → GainsAll D items before after → ((y : X) → AnyStands D items y ↔ ((x : X) × D s x × R x y)) → Adds D R s before after
   adds-all R s items before after gains same = record { exactly = λ y. (λ h. there y ((gains.exactly y).0 h), λ h. (gains.exactly y).1 (back y h)) }
     where
-      there : (y : X) → Shows D before y ⊎ AnyStands D items y → Shows D before y ⊎ ((x : X) × D s x × R x y)
+      there : (y : X) → HasItemFor D before y ⊎ AnyStands D items y → HasItemFor D before y ⊎ ((x : X) × D s x × R x y)
       there y (inl h) = inl h
       there y (inr a) = inr ((same y).0 a)
 
-      back : (y : X) → Shows D before y ⊎ ((x : X) × D s x × R x y) → Shows D before y ⊎ AnyStands D items y
+      back : (y : X) → HasItemFor D before y ⊎ ((x : X) × D s x × R x y) → HasItemFor D before y ⊎ AnyStands D items y
       back y (inl h) = inl h
       back y (inr r) = inr ((same y).1 r)
 
@@ -334,16 +334,16 @@ module _ (list : List Standing) (i : ℕ) (s : Standing) (y : Post) (below : i <
   more = take_more list i s below ∙ ap (λ z. take i list ++ z ∷ []) (sym is)
 
   -- a search of the list, where the next one fits
-  pub shows-here : (found : Bool) → found ≡ true → IsStanding s y → IsTrue found ↔ Shows IsStanding (take (i + 1) list) y
+  pub shows-here : (found : Bool) → found ≡ true → IsStanding s y → IsTrue found ↔ HasItemFor IsStanding (take (i + 1) list) y
   shows-here found e stands = (λ t. rw more ((shows-push IsStanding (take i list) s y).1 (inr stands)), λ h. e)
 
   -- and where it doesn't
-  pub shows-on : (found before : Bool) → found ≡ before → (IsStanding s y → ⊥) → (IsTrue before ↔ Shows IsStanding (take i list) y) → IsTrue found ↔ Shows IsStanding (take (i + 1) list) y
+  pub shows-on : (found before : Bool) → found ≡ before → (IsStanding s y → ⊥) → (IsTrue before ↔ HasItemFor IsStanding (take i list) y) → IsTrue found ↔ HasItemFor IsStanding (take (i + 1) list) y
   shows-on found before e not known = rw (e, more) (
     (λ t. (shows-push IsStanding (take i list) s y).1 (inl (known.0 t))),
     λ h. known.1 (early ((shows-push IsStanding (take i list) s y).0 h)),
   )
     where
-      early : Shows IsStanding (take i list) y ⊎ IsStanding s y → Shows IsStanding (take i list) y
+      early : HasItemFor IsStanding (take i list) y ⊎ IsStanding s y → HasItemFor IsStanding (take i list) y
       early (inl h) = h
       early (inr d) = absurd (not d)

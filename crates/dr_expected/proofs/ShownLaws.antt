@@ -5,7 +5,7 @@ use Rattle.std.proofs.Common.{refl, sym, ap, ◌∙◌, inl, inr, subst, get_or,
 use Rattle.std.proofs.lemmas.List.Elements.{Contains-append_left, Contains-push, Contains-push_cases}
 use Rattle.std.proofs.lemmas.List.{take_more, take_all}
 use Rattle.std.proofs.lemmas.List.Sorted.{list_any-IsPermutation, IsPermutation-reverse}
-use Rattle.dr_meaning.specs.Stages.{has}
+use Rattle.dr_base.specs.Lists.{has}
 use Rattle.dr_meaning.specs.Visits.{Visit, is_excused}
 use Rattle.dr_meaning.specs.Runs.{Run, holds}
 use Rattle.dr_meaning.specs.Expected.{After}
@@ -14,32 +14,32 @@ use Rattle.dr_replay.specs.declared.visiting.Visit.{Visit as VisitValue}
 use Rattle.dr_replay.specs.Values.{run_of, runs_told, visit_of, visits_told}
 use Rattle.dr_replay.specs.declared.runs.Run.{Run as RunValue}
 use Rattle.dr_replay.proofs.Told.{told_more}
-use Rattle.dr_expected.specs.Expecting.{Shows, Lists, Gains, Adds, Leads}
+use Rattle.dr_expected.specs.Expecting.{HasItemFor, Lists, Gains, Adds, Leads}
 
 module _ {S X : Type 0} (D : S → X → Type 0) where
-  pub shows-nil : (y : X) → Shows D [] y → ⊥
+  pub shows-nil : (y : X) → HasItemFor D [] y → ⊥
   shows-nil y (s, (k, l, e), d) = omega arith
 
   -- one more item
-  pub shows-push : (list : List S) (s : S) (y : X) → Shows D (list ++ s ∷ []) y ↔ (Shows D list y ⊎ D s y)
+  pub shows-push : (list : List S) (s : S) (y : X) → HasItemFor D (list ++ s ∷ []) y ↔ (HasItemFor D list y ⊎ D s y)
   shows-push list s y = (there, back)
     where
-      there : Shows D (list ++ s ∷ []) y → Shows D list y ⊎ D s y
+      there : HasItemFor D (list ++ s ∷ []) y → HasItemFor D list y ⊎ D s y
       there (t, c, d) = go (Contains-push_cases list s t c)
         where
-          go : Contains list t ⊎ (s ≡ t) → Shows D list y ⊎ D s y
+          go : Contains list t ⊎ (s ≡ t) → HasItemFor D list y ⊎ D s y
           go (inl c) = inl (t, c, d)
           go (inr e) = inr (subst (λ z. D z y) (sym e) d)
 
-      back : Shows D list y ⊎ D s y → Shows D (list ++ s ∷ []) y
+      back : HasItemFor D list y ⊎ D s y → HasItemFor D (list ++ s ∷ []) y
       back (inl (t, c, d)) = (t, Contains-append_left list (s ∷ []) t c, d)
       back (inr d) = (s, Contains-push list s, d)
 
   -- an item that the list has
-  pub shows-kept : (list : List S) (s : S) (y : X) → Contains list s → Shows D list y ↔ (Shows D list y ⊎ D s y)
+  pub shows-kept : (list : List S) (s : S) (y : X) → Contains list s → HasItemFor D list y ↔ (HasItemFor D list y ⊎ D s y)
   shows-kept list s y c = (λ h. inl h, back)
     where
-      back : Shows D list y ⊎ D s y → Shows D list y
+      back : HasItemFor D list y ⊎ D s y → HasItemFor D list y
       back (inl h) = h
       back (inr d) = (s, c, d)
 
@@ -57,7 +57,7 @@ module _ {S X : Type 0} (D : S → X → Type 0) (P : X → Type 0) where
   pub lists-one : (s : S) (list : List S) → Gains D s [] list → ((y : X) → D s y ↔ P y) → Lists D P list
   lists-one s list gains same = record { exactly = λ y. (λ h. there y ((gains.exactly y).0 h), λ p. (gains.exactly y).1 (inr ((same y).1 p))) }
     where
-      there : (y : X) → Shows D [] y ⊎ D s y → P y
+      there : (y : X) → HasItemFor D [] y ⊎ D s y → P y
       there y (inl h) = absurd (shows-nil D y h)
       there y (inr d) = (same y).0 d
 
@@ -71,11 +71,11 @@ module _ {S X : Type 0} (D : S → X → Type 0) (R : X → X → Type 0) where
     );
   }
     where
-      there : (y : X) → Shows D before y ⊎ D t y → Shows D before y ⊎ ((x : X) × D s x × R x y)
+      there : (y : X) → HasItemFor D before y ⊎ D t y → HasItemFor D before y ⊎ ((x : X) × D s x × R x y)
       there y (inl h) = inl h
       there y (inr d) = inr ((same y).0 d)
 
-      back : (y : X) → Shows D before y ⊎ ((x : X) × D s x × R x y) → Shows D before y ⊎ D t y
+      back : (y : X) → HasItemFor D before y ⊎ ((x : X) × D s x × R x y) → HasItemFor D before y ⊎ D t y
       back y (inl h) = inl h
       back y (inr r) = inr ((same y).1 r)
 
@@ -88,19 +88,19 @@ module _ {S X : Type 0} (D : S → X → Type 0) (R : X → X → Type 0) where
     );
   }
     where
-      split : (y : X) → Shows D before y ⊎ D t y → Shows D before y ⊎ ((x : X) × D s x × R x y)
+      split : (y : X) → HasItemFor D before y ⊎ D t y → HasItemFor D before y ⊎ ((x : X) × D s x × R x y)
       split y (inl h) = inl h
       split y (inr d) = inr ((same y).0 (inl d))
 
-      there : (y : X) → Shows D mid y ⊎ D u y → Shows D before y ⊎ ((x : X) × D s x × R x y)
+      there : (y : X) → HasItemFor D mid y ⊎ D u y → HasItemFor D before y ⊎ ((x : X) × D s x × R x y)
       there y (inl h) = split y ((first.exactly y).0 h)
       there y (inr d) = inr ((same y).0 (inr d))
 
-      which : (y : X) → D t y ⊎ D u y → Shows D mid y ⊎ D u y
+      which : (y : X) → D t y ⊎ D u y → HasItemFor D mid y ⊎ D u y
       which y (inl d) = inl ((first.exactly y).1 (inr d))
       which y (inr d) = inr d
 
-      back : (y : X) → Shows D before y ⊎ ((x : X) × D s x × R x y) → Shows D mid y ⊎ D u y
+      back : (y : X) → HasItemFor D before y ⊎ ((x : X) × D s x × R x y) → HasItemFor D mid y ⊎ D u y
       back y (inl h) = inl ((first.exactly y).1 (inl h))
       back y (inr r) = which y ((same y).1 r)
 
@@ -110,17 +110,17 @@ module _ {S X : Type 0} (D : S → X → Type 0) (R : X → X → Type 0) where
   pub leads-push : (list next more : List S) (s : S) → Leads D R list next → Adds D R s next more → Leads D R (list ++ s ∷ []) more
   leads-push list next more s led adds = record { exactly = λ y. (there y, back y) }
     where
-      there : (y : X) → Shows D more y → (x : X) × Shows D (list ++ s ∷ []) x × R x y
+      there : (y : X) → HasItemFor D more y → (x : X) × HasItemFor D (list ++ s ∷ []) x × R x y
       there y h = go ((adds.exactly y).0 h)
         where
-          go : Shows D next y ⊎ ((x : X) × D s x × R x y) → (x : X) × Shows D (list ++ s ∷ []) x × R x y
+          go : HasItemFor D next y ⊎ ((x : X) × D s x × R x y) → (x : X) × HasItemFor D (list ++ s ∷ []) x × R x y
           go (inl h) = let (x, sh, r) = (led.exactly y).0 h in (x, (shows-push D list s x).1 (inl sh), r)
           go (inr (x, d, r)) = (x, (shows-push D list s x).1 (inr d), r)
 
-      back : (y : X) → (x : X) × Shows D (list ++ s ∷ []) x × R x y → Shows D more y
+      back : (y : X) → (x : X) × HasItemFor D (list ++ s ∷ []) x × R x y → HasItemFor D more y
       back y (x, sh, r) = go ((shows-push D list s x).0 sh)
         where
-          go : Shows D list x ⊎ D s x → Shows D more y
+          go : HasItemFor D list x ⊎ D s x → HasItemFor D more y
           go (inl sh) = (adds.exactly y).1 (inl ((led.exactly y).1 (x, sh, r)))
           go (inr d) = (adds.exactly y).1 (inr (x, d, r))
 
@@ -150,20 +150,20 @@ module _ {S X : Type 0} (D : S → X → Type 0) (R : X → X → Type 0) where
 module _ {S X : Type 0} (D : S → X → Type 0) (Step : Visit → X → X → Type 0) where
   pub through-none : (list : List S) → Leads D (Through Step []) list list
   through-none list = record {
-    exactly = λ y. (λ h. (y, h, refl), λ (x, h, e). subst (λ z. Shows D list z) (sym e) h);
+    exactly = λ y. (λ h. (y, h, refl), λ (x, h, e). subst (λ z. HasItemFor D list z) (sym e) h);
   }
 
   -- one more visit
   pub through-more : (v : Visit) (vs : List Visit) (list mid next : List S) → Leads D (Through Step vs) list mid → Leads D (Step v) mid next → Leads D (Through Step (v ∷ vs)) list next
   through-more v vs list mid next led step = record { exactly = λ y. (there y, back y) }
     where
-      there : (y : X) → Shows D next y → (x : X) × Shows D list x × Through Step (v ∷ vs) x y
+      there : (y : X) → HasItemFor D next y → (x : X) × HasItemFor D list x × Through Step (v ∷ vs) x y
       there y h =
           let (m, sh, r) = (step.exactly y).0 h in
           let (x, from, through) = (led.exactly m).0 sh in
           (x, from, (m, through, r))
 
-      back : (y : X) → (x : X) × Shows D list x × Through Step (v ∷ vs) x y → Shows D next y
+      back : (y : X) → (x : X) × HasItemFor D list x × Through Step (v ∷ vs) x y → HasItemFor D next y
       back y (x, from, (m, through, r)) = (step.exactly y).1 (m, (led.exactly m).1 (x, from, through), r)
 
 -- a list the other way round has the same numbers

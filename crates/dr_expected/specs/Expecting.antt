@@ -12,24 +12,24 @@ use Rattle.dr_expected.specs.declared.frames.Frame.{Frame}
 use Rattle.dr_expected.specs.Frames.{frame_value}
 
 -- an item of the list stands for y
-abbrev pub Shows : {S X : Type 0} → (S → X → Type 0) → List S → X → Type 0
-Shows {S} StandsFor list y = (s : S) × Contains list s × StandsFor s y
+abbrev pub HasItemFor : {S X : Type 0} → (S → X → Type 0) → List S → X → Type 0
+HasItemFor {S} StandsFor list y = (s : S) × Contains list s × StandsFor s y
 
 -- the list shows exactly what has P
 pub record Lists {S X : Type 0} (StandsFor : S → X → Type 0) (P : X → Type 0) (list : List S) : Type 0 where
-  pub exactly : (y : X) → Shows StandsFor list y ↔ P y
+  pub exactly : (y : X) → HasItemFor StandsFor list y ↔ P y
 
 -- the list got one more item
 pub record Gains {S X : Type 0} (StandsFor : S → X → Type 0) (item : S) (before after : List S) : Type 0 where
-  pub exactly : (y : X) → Shows StandsFor after y ↔ (Shows StandsFor before y ⊎ StandsFor item y)
+  pub exactly : (y : X) → HasItemFor StandsFor after y ↔ (HasItemFor StandsFor before y ⊎ StandsFor item y)
 
 -- the list got exactly what comes by R from what the item stands for
 pub record Adds {S X : Type 0} (StandsFor : S → X → Type 0) (R : X → X → Type 0) (item : S) (before after : List S) : Type 0 where
-  pub exactly : (y : X) → Shows StandsFor after y ↔ (Shows StandsFor before y ⊎ ((x : X) × StandsFor item x × R x y))
+  pub exactly : (y : X) → HasItemFor StandsFor after y ↔ (HasItemFor StandsFor before y ⊎ ((x : X) × StandsFor item x × R x y))
 
 -- the second list shows exactly what comes by R from what the first one shows
 pub record Leads {S X : Type 0} (StandsFor : S → X → Type 0) (R : X → X → Type 0) (list next : List S) : Type 0 where
-  pub exactly : (y : X) → Shows StandsFor next y ↔ ((x : X) × Shows StandsFor list x × R x y)
+  pub exactly : (y : X) → HasItemFor StandsFor next y ↔ ((x : X) × HasItemFor StandsFor list x × R x y)
 
 -- a frame of the program stands for its value
 abbrev pub IsFrame : Frame → FrameValue → Type 0

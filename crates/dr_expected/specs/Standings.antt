@@ -11,7 +11,7 @@ use Rattle.dr_meaning.specs.Expected.{no_place}
 use Rattle.dr_expected.specs.declared.posts.Wanted.{Wanted}
 use Rattle.dr_expected.specs.declared.posts.Spot.{Spot}
 use Rattle.dr_expected.specs.declared.posts.Standing.{Standing}
-use Rattle.dr_expected.specs.Expecting.{Shows}
+use Rattle.dr_expected.specs.Expecting.{HasItemFor}
 
 -- the placement that maps give, or the one that no machine has
 abbrev pub place_value : Option Placement → Placement
@@ -74,7 +74,7 @@ AnyStands StandsFor (s ∷ items) y = StandsFor s y ⊎ AnyStands StandsFor item
 
 -- the list got these items
 pub record GainsAll {S X : Type 0} (StandsFor : S → X → Type 0) (items before after : List S) : Type 0 where
-  pub exactly : (y : X) → Shows StandsFor after y ↔ (Shows StandsFor before y ⊎ AnyStands StandsFor items y)
+  pub exactly : (y : X) → HasItemFor StandsFor after y ↔ (HasItemFor StandsFor before y ⊎ AnyStands StandsFor items y)
 
 -- the stage that does what a finished run means, at the old side; Sync does nothing
 abbrev pub old_kind : Op → Bool → StageKind

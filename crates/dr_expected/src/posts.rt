@@ -3,8 +3,9 @@
 ghost use Rattle.std.specs.Prelude.{◌≡◌, ◌↔◌, ◌&&◌, ◌||◌, not, [], ◌∷◌, IfOk, OnOk, IsTrue, Contains, All, if◌then◌else◌};
 ghost use Rattle.std.specs.Bool.{MatchBool};
 ghost use Rattle.dr_base.specs.Sides.{same_side};
-ghost use Rattle.dr_inventory.specs.Sound.{IsSound};
-ghost use Rattle.dr_meaning.specs.Stages.{stage_at, has as has_number};
+ghost use Rattle.dr_inventory.specs.Sound.{IsSoundEstate};
+ghost use Rattle.dr_base.specs.Lists.{has as has_number};
+ghost use Rattle.dr_meaning.specs.Stages.{stage_at};
 ghost use Rattle.dr_mappings.specs.Placements.{place_of};
 ghost use Rattle.dr_meaning.specs.Worlds.{IsOpeningPost};
 ghost use Rattle.dr_meaning.specs.Visits.{is_excused};
@@ -14,7 +15,7 @@ ghost use Rattle.dr_meaning.specs.Reach.{ReachPost, PostStep, works, side_of_wav
 ghost use Rattle.dr_meaning.specs.Meaning.{MeansPost, is_wave_of, last_visit_of, is_stop_skipped};
 ghost use Rattle.dr_meaning.specs.Expected.{LeavesPost, ExpectedPost, wanted, given};
 ghost use Rattle.dr_replay.specs.Values.{run_of, runs_told, visit_of};
-ghost use Rattle.dr_expected.specs.Expecting.{Shows, Lists, Gains, Adds, Leads};
+ghost use Rattle.dr_expected.specs.Expecting.{HasItemFor, Lists, Gains, Adds, Leads};
 ghost use Rattle.dr_expected.specs.Standings.{placed_value, IsStanding, IsAt, stopped_standing, made_standing, start_standings, failed_standings, PostOver, GainsAll, place_value, old_kind, new_kind, is_old_sure, is_new_sure, meant_kind, is_sure};
 
 use crate::frames::{excuses, is_complete, kind_at};
@@ -390,7 +391,7 @@ fn place_at(
     side: Side,
     bubble: bool,
 ) -> Option<Placement>
-    requires { IsSound estate.now }
+    requires { IsSoundEstate estate.now }
     ensures { place_value result ≡ given (place_of estate.now machine home side bubble) }
 {
     if machine as usize >= estate.machines.as_slice().len() {
@@ -404,7 +405,7 @@ fn place_at(
 
 // The placement that the run wants for a machine of the group.
 fn wanted_by(group: u32, run: &Run, machine: u32) -> Wanted
-    requires { IsSound run.now.estate.now }
+    requires { IsSoundEstate run.now.estate.now }
     ensures { placed_value result ≡ wanted group (run_of run.now) machine }
 {
     let home = group_state(run.estate, group, &[]).protected;
@@ -424,7 +425,7 @@ fn left_of_held(
     side: Side,
     list: Vec<Standing>,
 ) -> Result<Vec<Standing>, NoMemory>
-    requires { IsSound run.now.estate.now }
+    requires { IsSoundEstate run.now.estate.now }
     ensures { IfOk result (λ next. MatchBool (holds group (run_of run.now)) (Leads IsStanding (LeavesPost (run_of run.now) machine side (wanted group (run_of run.now) machine)) list.items next.items) (next.items ≡ list.items)) }
 {
     if run.holds(group) {
@@ -461,7 +462,7 @@ fn expected(
     side: Side,
     runs: &[Run],
 ) -> Result<Vec<Standing>, NoMemory>
-    requires { All (λ run. IsSound run.estate.now) runs.now }
+    requires { All (λ run. IsSoundEstate run.estate.now) runs.now }
     ensures { IfOk result (λ list. Lists IsStanding (ExpectedPost estate.now group machine side (runs_told runs.now)) list.items) }
 {
     let mut list = Vec::new(alloc);
@@ -510,7 +511,7 @@ fn is_standing(standing: &Standing, post: &Post) -> bool
 
 // Whether a post stands as one of these.
 fn shows(list: &[Standing], post: &Post) -> bool
-    ensures { IsTrue result ↔ Shows IsStanding list.now post.now }
+    ensures { IsTrue result ↔ HasItemFor IsStanding list.now post.now }
 {
     let mut found = false;
     for standing in list {
@@ -529,7 +530,7 @@ pub fn expects_post(
     runs: &[Run],
     post: &Post,
 ) -> Result<bool, NoMemory>
-    requires { All (λ run. IsSound run.estate.now) runs.now }
+    requires { All (λ run. IsSoundEstate run.estate.now) runs.now }
     ensures { IfOk result (λ b. IsTrue b ↔ ExpectedPost estate.now group machine side (runs_told runs.now) post.now) }
 {
     let list = expected(alloc, estate, group, machine, side, runs)?;

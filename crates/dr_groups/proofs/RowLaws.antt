@@ -9,7 +9,7 @@ use Rattle.std.proofs.lemmas.Option.{slice_get_read, slice_get_within, get_or_fr
 use Rattle.dr_inventory.specs.declared.estate.Machine.{Machine}
 use Rattle.dr_inventory.specs.declared.estate.Datastore.{Datastore}
 use Rattle.dr_inventory.specs.declared.estate.Estate.{Estate}
-use Rattle.dr_inventory.specs.Sound.{AllBelow, IsSound}
+use Rattle.dr_inventory.specs.Sound.{AllBelow, IsSoundEstate}
 use Rattle.dr_groups.specs.Links.{HasDevice, IsLinked, SameClass}
 use Rattle.dr_groups.specs.Trees.{HasEntry, IsLed}
 use Rattle.dr_groups.proofs.ChainLaws.{same_class-link, same_class-within}
@@ -63,7 +63,7 @@ pub entry_linked : (e : Estate) (a b entry : ℕ) → HasEntry e a entry → Has
 entry_linked e a b entry p q = inr (record { device = p.device; other = q.device; first = p.named; second = q.named; same = p.is ∙ sym q.is })
 
 -- a machine's datastores are declared
-pub machine_below : (e : Estate) (m : Machine) (d : ℕ) → IsSound e → Contains e.machines m → Contains m.datastores d → d < length e.datastores
+pub machine_below : (e : Estate) (m : Machine) (d : ℕ) → IsSoundEstate e → Contains e.machines m → Contains m.datastores d → d < length e.datastores
 machine_below e m d sound declared named =
     All-contains (λ k. k < length e.datastores) m.datastores d (All-contains (λ m. AllBelow (length e.datastores) m.datastores) e.machines m sound.numbers.machine_datastores declared) named
 
@@ -75,11 +75,11 @@ pub contained_read : (xs ys : List ℕ) (k : ℕ) → xs ≡ ys → k < length x
 contained_read xs ys k same within = let P : List ℕ → Type 0 = λ zs. Contains zs (get_or xs k 0) in subst P same (Contains-get_or xs k 0 within)
 
 -- a device's entry, and its leader, lie within the lists
-pub device_below : (e : Estate) (d v : ℕ) → IsSound e → HasDevice e d v → v < length e.devices
+pub device_below : (e : Estate) (d v : ℕ) → IsSoundEstate e → HasDevice e d v → v < length e.devices
 device_below e d v sound h =
     All-contains (λ k. k < length e.devices) h.row.devices v (All-contains (λ d. AllBelow (length e.devices) d.devices) e.datastores h.row sound.numbers.datastore_devices (found_contained e.datastores d h.row h.found)) h.named
 
-pub entry_below : (e : Estate) (d entry : ℕ) → IsSound e → HasEntry e d entry → entry < length e.devices
+pub entry_below : (e : Estate) (d entry : ℕ) → IsSoundEstate e → HasEntry e d entry → entry < length e.devices
 entry_below e d entry sound h =
     let P : ℕ → Type 0 = λ n. n < length e.devices in
     subst P h.is (All-get_or P e.consistency h.device 0 (omega (arith, device_below e d h.device sound h.named, sound.numbers.one_entry_each)) sound.numbers.consistency)
@@ -114,10 +114,10 @@ all_led_more e old new i kept before here d entry below has = elim (cases_lt d i
 pub written_back : {X : Type 0} (n : ℕ) (xs ys : List X) → length xs ≡ n → xs ≡ take n (xs ++ drop (length xs) ys)
 written_back n xs ys same = sym (ap (λ k. take k (xs ++ drop (length xs) ys)) (sym same) ∙ take-append_seam xs (drop (length xs) ys))
 
-linked_within : (e : Estate) → IsSound e → (a b : ℕ) → IsLinked e a b → b < length e.datastores
+linked_within : (e : Estate) → IsSoundEstate e → (a b : ℕ) → IsLinked e a b → b < length e.datastores
 linked_within e sound a b (inl m) = machine_below e m.machine b sound m.declared m.second
 linked_within e sound a b (inr s) = device_within e b s.other s.second
 
 -- a class lies within the list of datastores
-pub class_within : (e : Estate) (a b : ℕ) → IsSound e → SameClass e a b → a < length e.datastores → b < length e.datastores
+pub class_within : (e : Estate) (a b : ℕ) → IsSoundEstate e → SameClass e a b → a < length e.datastores → b < length e.datastores
 class_within e a b sound same within = same_class-within e (λ n. n < length e.datastores) (linked_within e sound) a b same within

@@ -8,7 +8,7 @@ use Rattle.dr_groups.specs.Links.{SameClass, AreLabels}
 use Rattle.dr_groups.specs.Marks.{IsMarked}
 use Rattle.dr_groups.specs.Groups.{IsInGroup, Splits, IsClosed, IsLeastSplit}
 use Rattle.dr_groups.specs.Searches.{MarksGroup, IsOutside, IsInside}
-use Rattle.dr_inventory.specs.Sound.{IsSound, AllBelow}
+use Rattle.dr_inventory.specs.Sound.{IsSoundEstate, AllBelow}
 use Rattle.std.proofs.lemmas.List.{get_or_default}
 use Rattle.dr_groups.proofs.MarkLaws.{marked_within, true_is_not_false}
 use Rattle.dr_groups.proofs.RowLaws.{class_within}
@@ -44,7 +44,7 @@ labels_below e labels n l same = λ k d within.
     omega (arith, here, same, (l.least k (omega (arith, l.one_each))).below_all k (same_class-self e k))
 
 -- a datastore of a class that the group splits is inside, and the one that it lacks is outside
-splits-outside : (e : Estate) (group : ℕ) (labels : List ℕ) (marks : List Bool) (a b : ℕ) → IsSound e → AreLabels e labels → MarksGroup e group marks → Splits e group a b
+splits-outside : (e : Estate) (group : ℕ) (labels : List ℕ) (marks : List Bool) (a b : ℕ) → IsSoundEstate e → AreLabels e labels → MarksGroup e group marks → Splits e group a b
     → IsOutside labels marks (get_or labels a 0) b
 splits-outside e group labels marks a b sound l m s =
     let within_a : a < length e.datastores = omega (arith, marked_within marks a ((m.exactly a).1 s.in_group), m.one_each) in
@@ -55,7 +55,7 @@ splits-outside e group labels marks a b sound l m s =
       unmarked = λ marked. s.left_out ((m.exactly b).0 marked);
     }
 
-splits-inside : (e : Estate) (group : ℕ) (labels : List ℕ) (marks : List Bool) (a b : ℕ) → IsSound e → AreLabels e labels → MarksGroup e group marks → Splits e group a b → IsInside labels marks a
+splits-inside : (e : Estate) (group : ℕ) (labels : List ℕ) (marks : List Bool) (a b : ℕ) → IsSoundEstate e → AreLabels e labels → MarksGroup e group marks → Splits e group a b → IsInside labels marks a
 splits-inside e group labels marks a b sound l m s =
     record { marked = (m.exactly a).1 s.in_group; other = record { datastore = b; outside = splits-outside e group labels marks a b sound l m s } }
 
@@ -67,7 +67,7 @@ splits-from e group labels marks a b l m inside outside = record {
 }
 
 -- where nothing is inside, the group holds whole classes
-pub none_inside : (e : Estate) (group : ℕ) (labels : List ℕ) (marks : List Bool) → IsSound e → AreLabels e labels → MarksGroup e group marks → ((k : ℕ) → k < length labels → ¬ IsInside labels marks k) → IsClosed e group
+pub none_inside : (e : Estate) (group : ℕ) (labels : List ℕ) (marks : List Bool) → IsSoundEstate e → AreLabels e labels → MarksGroup e group marks → ((k : ℕ) → k < length labels → ¬ IsInside labels marks k) → IsClosed e group
 none_inside e group labels marks sound l m none = record {
   whole = λ a b in_group same.
       elim (cases_Bool (get_or marks b false)) [
@@ -79,7 +79,7 @@ none_inside e group labels marks sound l m none = record {
 }
 
 -- the least inside and the least outside are the least split
-pub split_found : (e : Estate) (group : ℕ) (labels : List ℕ) (marks : List Bool) → IsSound e → AreLabels e labels → MarksGroup e group marks → (r : Option (ℕ × ℕ))
+pub split_found : (e : Estate) (group : ℕ) (labels : List ℕ) (marks : List Bool) → IsSoundEstate e → AreLabels e labels → MarksGroup e group marks → (r : Option (ℕ × ℕ))
     → IfSome r (λ p. IsInside labels marks p.0) → IfSome r (λ p. IsOutside labels marks (get_or labels p.0 0) p.1)
     → IfSome r (λ p. (k : ℕ) → k < p.0 → ¬ IsInside labels marks k) → IfSome r (λ p. (k : ℕ) → k < p.1 → ¬ IsOutside labels marks (get_or labels p.0 0) k)
     → IfSome r (λ p. IsLeastSplit e group p.0 p.1)

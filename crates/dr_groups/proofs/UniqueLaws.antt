@@ -8,7 +8,7 @@ use Rattle.std.proofs.lemmas.Option.{slice_get_within}
 use Rattle.dr_base.specs.declared.group_fault.GroupFault.{GroupFault}
 use Rattle.dr_base.specs.declared.group_fault.GroupFault.TheVariants.{NotClosed, InTwo, NoMemory}
 use Rattle.dr_inventory.specs.declared.estate.Estate.{Estate}
-use Rattle.dr_inventory.specs.Sound.{AllBelow, IsSound}
+use Rattle.dr_inventory.specs.Sound.{AllBelow, IsSoundEstate}
 use Rattle.dr_inventory.specs.declared.members.Members.{Members}
 use Rattle.dr_groups.specs.Marks.{ListsAscending}
 use Rattle.dr_groups.specs.Groups.{IsInGroup, IsFirstFault, ListsByGroup, AreMembersOf}
@@ -104,19 +104,19 @@ one_group_fault e f NoMemory a b more more' = absurd (more' refl)
 pub group_within : (e : Estate) (g d : ℕ) → IsInGroup e g d → g < length e.groups
 group_within e g d h = slice_get_within e.groups g h.row h.found
 
-pub grouped_within : (e : Estate) (g d : ℕ) → IsSound e → IsInGroup e g d → d < length e.datastores
+pub grouped_within : (e : Estate) (g d : ℕ) → IsSoundEstate e → IsInGroup e g d → d < length e.datastores
 grouped_within e g d sound h =
     All-contains (λ k. k < length e.datastores) h.row.datastores d
     (All-contains (λ r. AllBelow (length e.datastores) r.datastores) e.groups h.row sound.numbers.group_datastores (found_contained e.groups g h.row h.found)) h.named
 
 -- the numbers that a fault of groups tells are the estate's
-pub split_within : (e : Estate) (g i o : ℕ) → IsSound e → IsFirstFault e (NotClosed g i o) → (g < length e.groups) × (i < length e.datastores) × (o < length e.datastores)
+pub split_within : (e : Estate) (g i o : ℕ) → IsSoundEstate e → IsFirstFault e (NotClosed g i o) → (g < length e.groups) × (i < length e.datastores) × (o < length e.datastores)
 split_within e g i o sound first =
     let splits = first.least.splits in
     let inner : i < length e.datastores = grouped_within e g i sound splits.in_group in
     (group_within e g i splits.in_group, inner, class_within e i o sound splits.same_class inner)
 
-pub shared_within : (e : Estate) (d g h : ℕ) → IsSound e → IsFirstFault e (InTwo d g h) → (d < length e.datastores) × (g < length e.groups) × (h < length e.groups)
+pub shared_within : (e : Estate) (d g h : ℕ) → IsSoundEstate e → IsFirstFault e (InTwo d g h) → (d < length e.datastores) × (g < length e.groups) × (h < length e.groups)
 shared_within e d g h sound first =
     let shared = first.shared.shared in
     (grouped_within e g d sound shared.first, group_within e g d shared.first, group_within e h d shared.second)

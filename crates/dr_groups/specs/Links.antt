@@ -39,12 +39,12 @@ pub record SameClass (estate : Estate) (a b : ℕ) : Type 0 where
   pub datastores : List ℕ
   pub chain : IsChain estate a datastores b
 
--- this is the least datastore of the other's class
-pub record IsLeastOfClass (estate : Estate) (least datastore : ℕ) : Type 0 where
+-- a label: the least datastore of the other's class
+pub record IsLabelOf (estate : Estate) (least datastore : ℕ) : Type 0 where
   pub in_class : SameClass estate datastore least
   pub below_all : (other : ℕ) → SameClass estate datastore other → least ≤ other
 
 -- each datastore has the least of its class as its label
 pub record AreLabels (estate : Estate) (labels : List ℕ) : Type 0 where
   pub one_each : length labels ≡ length estate.datastores
-  pub least : (datastore : ℕ) → datastore < length estate.datastores → IsLeastOfClass estate (slice_index labels datastore) datastore
+  pub least : (datastore : ℕ) → datastore < length estate.datastores → IsLabelOf estate (slice_index labels datastore) datastore

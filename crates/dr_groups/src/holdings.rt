@@ -2,7 +2,7 @@
 
 ghost use Rattle.std.specs.Prelude.{◌≡◌, ◌≢◌, ◌<◌, ◌⊎◌, ◌↔◌, ℕ, length, IsTrue, IsNone, IsOk, IfSome, IfOk, IfErr, OnOk};
 ghost use Rattle.dr_base.specs.declared.group_fault.GroupFault.TheVariants as fault;
-ghost use Rattle.dr_inventory.specs.Sound.{IsSound, AllBelow};
+ghost use Rattle.dr_inventory.specs.Sound.{IsSoundEstate, AllBelow};
 ghost use Rattle.dr_groups.specs.Marks.{IsMarked, ListsAscending};
 ghost use Rattle.dr_groups.specs.Groups.{Passes, IsFirstSplit, IsFirstInTwo, IsFirstFault, IsPairOf, IsMachineOf, AreMembersOf};
 ghost use Rattle.dr_groups.specs.Searches.{IsDeviceAmong, IsMachineWithin};
@@ -18,7 +18,7 @@ use std::alloc::{AllocError, Global};
 
 // Marks the devices of these datastores.
 fn mark_devices(estate: &Estate, datastores: &[u32], marks: &mut [bool])
-    requires sound { IsSound estate.now }
+    requires sound { IsSoundEstate estate.now }
     requires declared { AllBelow (length estate.now.datastores) datastores.now }
     requires one_each { length marks.old ≡ length estate.now.devices }
 
@@ -33,7 +33,7 @@ fn mark_devices(estate: &Estate, datastores: &[u32], marks: &mut [bool])
 // The pairs of this group.
 fn pairs_of(alloc: Global, estate: &Estate, group: usize) -> Result<Vec<u32>, AllocError>
     requires declared { group < length estate.now.groups }
-    requires sound { IsSound estate.now }
+    requires sound { IsSoundEstate estate.now }
 
     ensures { IfOk result (λ pairs. ListsAscending (IsPairOf estate.now group) pairs.items) }
 {
@@ -45,7 +45,7 @@ fn pairs_of(alloc: Global, estate: &Estate, group: usize) -> Result<Vec<u32>, Al
 // Whether this machine is on at least one datastore, and all of them are marked.
 fn is_within(estate: &Estate, marks: &[bool], machine: usize) -> bool
     requires declared { machine < length estate.now.machines }
-    requires sound { IsSound estate.now }
+    requires sound { IsSoundEstate estate.now }
     requires one_each { length marks.now ≡ length estate.now.datastores }
 
     ensures { IsTrue result ↔ IsMachineWithin estate.now marks.now machine }
@@ -57,7 +57,7 @@ fn is_within(estate: &Estate, marks: &[bool], machine: usize) -> bool
 // The machines of this group.
 fn machines_of(alloc: Global, estate: &Estate, group: usize) -> Result<Vec<u32>, AllocError>
     requires declared { group < length estate.now.groups }
-    requires sound { IsSound estate.now }
+    requires sound { IsSoundEstate estate.now }
 
     ensures { IfOk result (λ machines. ListsAscending (IsMachineOf estate.now group) machines.items) }
 {
@@ -73,7 +73,7 @@ fn machines_of(alloc: Global, estate: &Estate, group: usize) -> Result<Vec<u32>,
 
 // What each group holds.
 fn lists_of(alloc: Global, estate: &Estate) -> Result<Members, AllocError>
-    requires { IsSound estate.now }
+    requires { IsSoundEstate estate.now }
     ensures { IfOk result (AreMembersOf estate.now) }
 {
     let mut pairs = Vec::new(alloc);
@@ -90,7 +90,7 @@ fn lists_of(alloc: Global, estate: &Estate) -> Result<Members, AllocError>
 
 // The first of all that is wrong with the groups.
 fn first_fault(alloc: Global, estate: &Estate) -> Result<Option<GroupFault>, AllocError>
-    requires { IsSound estate.now }
+    requires { IsSoundEstate estate.now }
 
     ensures passes { IfOk result (λ found. IsNone found → Passes estate.now) }
     ensures fault { IfOk result (λ found. IfSome found (IsFirstFault estate.now)) }
@@ -109,7 +109,7 @@ fn first_fault(alloc: Global, estate: &Estate) -> Result<Option<GroupFault>, All
 /// doesn't hold whole datastore groups, then a datastore that is in two groups. `NoMemory` may come
 /// at any time.
 pub fn members(alloc: Global, estate: &Estate) -> Result<Members, GroupFault>
-    requires { IsSound estate.now }
+    requires { IsSoundEstate estate.now }
 
     ensures members { IfOk result (AreMembersOf estate.now) }
     ensures passes { OnOk result (Passes estate.now) }

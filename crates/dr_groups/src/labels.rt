@@ -2,7 +2,7 @@
 
 ghost use Rattle.std.specs.Prelude.{◌≡◌, ◌<◌, ◌↔◌, ℕ, length, Some, slice_get, slice_index, IfOk};
 ghost use Rattle.dr_inventory.specs.declared.estate.Machine.{Machine as MachineRow};
-ghost use Rattle.dr_inventory.specs.Sound.{IsSound};
+ghost use Rattle.dr_inventory.specs.Sound.{IsSoundEstate};
 ghost use Rattle.dr_groups.specs.Links.{ShareMachine, SameClass, AreLabels};
 ghost use Rattle.dr_groups.specs.Forests.{root};
 ghost use Rattle.dr_groups.specs.Trees.{IsWithinClasses, KeepsTogether, AreInOneTree, HasEntry, AreLeaders};
@@ -16,7 +16,7 @@ use std::alloc::{AllocError, Global};
 // Joins the datastores of this machine.
 fn join_machine(estate: &Estate, parents: &mut [u32], machine: usize)
     requires declared { machine < length estate.now.machines }
-    requires sound { IsSound estate.now }
+    requires sound { IsSoundEstate estate.now }
     requires within { IsWithinClasses estate.now parents.old }
 
     ensures within { IsWithinClasses estate.now parents.new }
@@ -31,7 +31,7 @@ fn join_machine(estate: &Estate, parents: &mut [u32], machine: usize)
 
 // Joins the datastores of each machine.
 fn join_machines(estate: &Estate, parents: &mut [u32])
-    requires sound { IsSound estate.now }
+    requires sound { IsSoundEstate estate.now }
     requires within { IsWithinClasses estate.now parents.old }
 
     ensures within { IsWithinClasses estate.now parents.new }
@@ -45,7 +45,7 @@ fn join_machines(estate: &Estate, parents: &mut [u32])
 // Joins this datastore with the leaders of its devices' entries.
 fn join_leaders(estate: &Estate, leaders: &[u32], parents: &mut [u32], datastore: usize)
     requires declared { datastore < length estate.now.datastores }
-    requires sound { IsSound estate.now }
+    requires sound { IsSoundEstate estate.now }
     requires leaders { AreLeaders estate.now leaders.now }
     requires within { IsWithinClasses estate.now parents.old }
 
@@ -63,7 +63,7 @@ fn join_leaders(estate: &Estate, leaders: &[u32], parents: &mut [u32], datastore
 
 // Joins each datastore with the leaders of its devices' entries.
 fn join_entries(estate: &Estate, leaders: &[u32], parents: &mut [u32])
-    requires sound { IsSound estate.now }
+    requires sound { IsSoundEstate estate.now }
     requires leaders { AreLeaders estate.now leaders.now }
     requires within { IsWithinClasses estate.now parents.old }
 
@@ -78,7 +78,7 @@ fn join_entries(estate: &Estate, leaders: &[u32], parents: &mut [u32])
 
 // Turns a forest of single datastores into their labels.
 fn label(estate: &Estate, leaders: &[u32], parents: &mut [u32])
-    requires sound { IsSound estate.now }
+    requires sound { IsSoundEstate estate.now }
     requires leaders { AreLeaders estate.now leaders.now }
     requires within { IsWithinClasses estate.now parents.old }
 
@@ -91,7 +91,7 @@ fn label(estate: &Estate, leaders: &[u32], parents: &mut [u32])
 
 /// The label of each datastore: the least number of its class.
 pub fn labels_of(alloc: Global, estate: &Estate) -> Result<Vec<u32>, AllocError>
-    requires { IsSound estate.now }
+    requires { IsSoundEstate estate.now }
     ensures { IfOk result (λ labels. AreLabels estate.now labels.items) }
 {
     let leaders = leaders_of(alloc, estate)?;
@@ -104,7 +104,7 @@ pub fn labels_of(alloc: Global, estate: &Estate) -> Result<Vec<u32>, AllocError>
 /// leads to, where two are linked by a machine that is on both, or by a consistency group that has
 /// devices of both. The time is near linear in all these lists together.
 pub fn datastore_groups(alloc: Global, estate: &Estate) -> Result<Vec<u32>, NoMemory>
-    requires { IsSound estate.now }
+    requires { IsSoundEstate estate.now }
 
     ensures labels { IfOk result (λ labels. AreLabels estate.now labels.items) }
 {

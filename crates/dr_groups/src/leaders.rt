@@ -1,7 +1,7 @@
 //! Leaders of consistency entries: for each entry a datastore that has a device with it.
 
 ghost use Rattle.std.specs.Prelude.{◌≡◌, ◌<◌, ◌↔◌, ℕ, length, Contains, IfOk};
-ghost use Rattle.dr_inventory.specs.Sound.{IsSound, AllBelow};
+ghost use Rattle.dr_inventory.specs.Sound.{IsSoundEstate, AllBelow};
 ghost use Rattle.dr_groups.specs.Links.{HasDevice};
 ghost use Rattle.dr_groups.specs.Trees.{HasEntry, IsLed, AreLeaders};
 
@@ -11,7 +11,7 @@ use std::alloc::{AllocError, Global};
 /// The devices of this datastore.
 pub fn devices_of(estate: &Estate, datastore: usize) -> &[u32]
     requires declared { datastore < length estate.now.datastores }
-    requires sound { IsSound estate.now }
+    requires sound { IsSoundEstate estate.now }
 
     ensures named { (device : ℕ) → Contains result.now device ↔ HasDevice estate.now datastore device }
     ensures within { AllBelow (length estate.now.devices) result.now }
@@ -22,7 +22,7 @@ pub fn devices_of(estate: &Estate, datastore: usize) -> &[u32]
 // Makes this datastore the leader of all entries of its devices.
 fn lead(estate: &Estate, leaders: &mut [u32], datastore: usize)
     requires declared { datastore < length estate.now.datastores }
-    requires sound { IsSound estate.now }
+    requires sound { IsSoundEstate estate.now }
     requires one_each { length leaders.old ≡ length estate.now.devices }
 
     ensures led { (entry : ℕ) → HasEntry estate.now datastore entry → IsLed estate.now leaders.new entry }
@@ -37,7 +37,7 @@ fn lead(estate: &Estate, leaders: &mut [u32], datastore: usize)
 
 // Makes each datastore the leader of all entries of its devices, the later ones last.
 fn lead_all(estate: &Estate, leaders: &mut [u32])
-    requires sound { IsSound estate.now }
+    requires sound { IsSoundEstate estate.now }
     requires one_each { length leaders.old ≡ length estate.now.devices }
 
     ensures { AreLeaders estate.now leaders.new }
@@ -49,7 +49,7 @@ fn lead_all(estate: &Estate, leaders: &mut [u32])
 
 /// The leader of each entry that a datastore has. Other entries have any number.
 pub fn leaders_of(alloc: Global, estate: &Estate) -> Result<Vec<u32>, AllocError>
-    requires { IsSound estate.now }
+    requires { IsSoundEstate estate.now }
     ensures { IfOk result (λ leaders. AreLeaders estate.now leaders.items) }
 {
     let mut leaders = vec![in alloc; 0; estate.devices.as_slice().len()]?;

@@ -1,7 +1,7 @@
 //! Datastores in two protection groups.
 
 ghost use Rattle.std.specs.Prelude.{◌≡◌, ◌+◌, ◌<◌, ◌≤◌, ◌^◌, ℕ, length, IsNone, IfSome, IfOk};
-ghost use Rattle.dr_inventory.specs.Sound.{IsSound};
+ghost use Rattle.dr_inventory.specs.Sound.{IsSoundEstate};
 ghost use Rattle.dr_groups.specs.Groups.{IsInGroup, IsInOneAtMost, IsSharedBy, IsFirstShared};
 ghost use Rattle.dr_groups.specs.Searches.{MarksBelow};
 
@@ -12,7 +12,7 @@ use std::alloc::{AllocError, Global};
 
 // The least group from this one on that has the datastore.
 fn group_with(estate: &Estate, datastore: u32, from: usize) -> Option<usize>
-    requires { IsSound estate.now }
+    requires { IsSoundEstate estate.now }
 
     ensures none { IsNone result → (group : ℕ) → from ≤ group → ¬ IsInGroup estate.now group datastore }
     ensures within { IfSome result (λ group. group < length estate.now.groups) }
@@ -30,7 +30,7 @@ fn group_with(estate: &Estate, datastore: u32, from: usize) -> Option<usize>
 
 // The two least groups that have the datastore.
 fn shared_by(estate: &Estate, datastore: u32) -> Option<(u32, u32)>
-    requires { IsSound estate.now }
+    requires { IsSoundEstate estate.now }
 
     ensures apart { IsNone result → IsInOneAtMost estate.now datastore }
     ensures shared { IfSome result (λ pair. IsSharedBy estate.now datastore pair.0 pair.1) }
@@ -43,7 +43,7 @@ fn shared_by(estate: &Estate, datastore: u32) -> Option<(u32, u32)>
 // Marks the datastores of this group: those that were seen before as shared, and all as seen.
 fn mark_group(estate: &Estate, group: usize, seen: &mut [bool], shared: &mut [bool])
     requires declared { group < length estate.now.groups }
-    requires sound { IsSound estate.now }
+    requires sound { IsSoundEstate estate.now }
     requires before { MarksBelow estate.now group seen.old shared.old }
 
     ensures { MarksBelow estate.now (group + 1) seen.new shared.new }
@@ -55,7 +55,7 @@ fn mark_group(estate: &Estate, group: usize, seen: &mut [bool], shared: &mut [bo
 
 // Marks the datastores of all groups.
 fn mark_groups(estate: &Estate, seen: &mut [bool], shared: &mut [bool])
-    requires sound { IsSound estate.now }
+    requires sound { IsSoundEstate estate.now }
     requires before { MarksBelow estate.now 0 seen.old shared.old }
 
     ensures { MarksBelow estate.now (length estate.now.groups) seen.new shared.new }
@@ -67,7 +67,7 @@ fn mark_groups(estate: &Estate, seen: &mut [bool], shared: &mut [bool])
 
 // The least datastore that is in two groups.
 fn least_shared(estate: &Estate, seen: &mut [bool], shared: &mut [bool]) -> Option<u32>
-    requires sound { IsSound estate.now }
+    requires sound { IsSoundEstate estate.now }
     requires before { MarksBelow estate.now 0 seen.old shared.old }
 
     ensures none { IsNone result → (datastore : ℕ) → IsInOneAtMost estate.now datastore }
@@ -80,7 +80,7 @@ fn least_shared(estate: &Estate, seen: &mut [bool], shared: &mut [bool]) -> Opti
 
 // The least datastore that is in two groups, with the two least groups that have it.
 fn shared_with(estate: &Estate, seen: &mut [bool], shared: &mut [bool]) -> Option<(u32, u32, u32)>
-    requires sound { IsSound estate.now }
+    requires sound { IsSoundEstate estate.now }
     requires before { MarksBelow estate.now 0 seen.old shared.old }
 
     ensures apart { IsNone result → (datastore : ℕ) → IsInOneAtMost estate.now datastore }
@@ -93,7 +93,7 @@ fn shared_with(estate: &Estate, seen: &mut [bool], shared: &mut [bool]) -> Optio
 
 /// The least datastore that is in two groups, with the two least groups that have it.
 pub fn first_shared(alloc: Global, estate: &Estate) -> Result<Option<(u32, u32, u32)>, AllocError>
-    requires { IsSound estate.now }
+    requires { IsSoundEstate estate.now }
 
     ensures apart { IfOk result (λ shared. IsNone shared → (datastore : ℕ) → IsInOneAtMost estate.now datastore) }
     ensures shared { IfOk result (λ shared. IfSome shared (λ found. IsFirstShared estate.now found.0 found.1 found.2)) }

@@ -1,7 +1,7 @@
 //! Protection groups that don't hold whole classes.
 
 ghost use Rattle.std.specs.Prelude.{◌≡◌, ◌<◌, ◌↔◌, ◌^◌, ◌⊎◌, ℕ, length, Contains, slice_index, IsNone, IfSome, IfOk};
-ghost use Rattle.dr_inventory.specs.Sound.{IsSound, AllBelow};
+ghost use Rattle.dr_inventory.specs.Sound.{IsSoundEstate, AllBelow};
 ghost use Rattle.dr_groups.specs.Links.{AreLabels};
 ghost use Rattle.dr_groups.specs.Marks.{IsMarked};
 ghost use Rattle.dr_groups.specs.Groups.{IsInGroup, IsClosed, AreClosed, IsLeastSplit, IsFirstSplit};
@@ -14,7 +14,7 @@ use std::alloc::{AllocError, Global};
 /// The datastores of this group.
 pub fn datastores_of(estate: &Estate, group: usize) -> &[u32]
     requires declared { group < length estate.now.groups }
-    requires sound { IsSound estate.now }
+    requires sound { IsSoundEstate estate.now }
 
     ensures named { (datastore : ℕ) → Contains result.now datastore ↔ IsInGroup estate.now group datastore }
     ensures within { AllBelow (length estate.now.datastores) result.now }
@@ -25,7 +25,7 @@ pub fn datastores_of(estate: &Estate, group: usize) -> &[u32]
 /// Marks for the datastores of this group.
 pub fn marks_of(alloc: Global, estate: &Estate, group: usize) -> Result<Vec<bool>, AllocError>
     requires declared { group < length estate.now.groups }
-    requires sound { IsSound estate.now }
+    requires sound { IsSoundEstate estate.now }
 
     ensures { IfOk result (λ marks. MarksGroup estate.now group marks.items) }
 {
@@ -114,7 +114,7 @@ pub fn least_split(
     group: usize,
 ) -> Result<Option<(u32, u32)>, AllocError>
     requires declared { group < length estate.now.groups }
-    requires sound { IsSound estate.now }
+    requires sound { IsSoundEstate estate.now }
     requires labels { AreLabels estate.now labels.now }
 
     ensures closed { IfOk result (λ split. IsNone split → IsClosed estate.now group) }
@@ -132,7 +132,7 @@ pub fn first_split(
     estate: &Estate,
     labels: &[u32],
 ) -> Result<Option<(u32, u32, u32)>, AllocError>
-    requires sound { IsSound estate.now }
+    requires sound { IsSoundEstate estate.now }
     requires labels { AreLabels estate.now labels.now }
 
     ensures closed { IfOk result (λ split. IsNone split → AreClosed estate.now) }

@@ -82,7 +82,7 @@ pub record HasNoneTwice (e : Estate) : Type 0 where
   pub in_plans : All HasNoneTwiceInPlan e.plans
 
 -- an estate that calls may take
-pub record IsSound (e : Estate) : Type 0 where
+pub record IsSoundEstate (e : Estate) : Type 0 where
   pub numbers : HasNumbersWithin e
   pub limits : IsWithinLimits e
   pub maps : All HasSingleNames e.maps

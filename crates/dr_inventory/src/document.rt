@@ -7,8 +7,8 @@ ghost use Rattle.dr_inventory.specs.Documents.{document};
 use crate::estate::{MapRow, PlanRow};
 use crate::lists::may_hold_list;
 use crate::read_error::ReadError;
+use crate::table_keys::{Walk, no_others};
 use crate::values::must_hold_form;
-use crate::walk::{Walk, no_others};
 use dr_base::{Name, Path, Rows, Side};
 use toml::Table;
 

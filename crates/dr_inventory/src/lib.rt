@@ -4,6 +4,7 @@
 mod consistency;
 mod document;
 mod estate;
+mod estates;
 mod limits;
 mod lists;
 mod map_key;
@@ -14,15 +15,14 @@ mod numbers;
 mod places;
 mod plans;
 mod read_error;
-mod reading;
 mod refers;
+mod table_keys;
 mod tables;
 mod twice;
 mod unknown;
 mod values;
-mod walk;
 
 pub use dr_base::{Callout, EstateFault, Kind, Limit};
 pub use estate::{Datastore, Estate, GroupRow, Machine, MapRow, PlanMachineRow, PlanRow, StepRow};
+pub use estates::read_estate;
 pub use members::Members;
-pub use reading::read_estate;

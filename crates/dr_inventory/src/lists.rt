@@ -6,7 +6,7 @@ ghost use Rattle.dr_inventory.specs.Part.{Gives};
 ghost use Rattle.dr_inventory.specs.Shapes.{entries, as_list, list_of, required, optional};
 
 use crate::read_error::ReadError;
-use crate::walk::{FromValue, Walk, at, entry_path, key_fault, key_path};
+use crate::table_keys::{FromValue, Walk, at, entry_path, key_fault, key_path};
 use dr_base::Rows;
 use toml::{Table, Value};
 

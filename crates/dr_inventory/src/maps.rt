@@ -7,8 +7,8 @@ ghost use Rattle.dr_inventory.specs.Maps.{a_place, map_row};
 
 use crate::estate::MapRow;
 use crate::read_error::ReadError;
+use crate::table_keys::{FromValue, Walk, at, key_fault, key_path, must_hold, no_others};
 use crate::values::path_of;
-use crate::walk::{FromValue, Walk, at, key_fault, key_path, must_hold, no_others};
 use dr_base::{Kind, Name, Path};
 use toml::{Table, Value};
 

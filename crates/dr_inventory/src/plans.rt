@@ -8,8 +8,8 @@ ghost use Rattle.dr_inventory.specs.Plans.{callout, step, plan_machine, plan};
 use crate::estate::{PlanMachineRow, PlanRow, StepRow};
 use crate::lists::{may_hold_list, must_hold_list};
 use crate::read_error::ReadError;
+use crate::table_keys::{FromValue, Walk, at, key_fault, key_path, must_hold, no_others};
 use crate::values::may_hold_number;
-use crate::walk::{FromValue, Walk, at, key_fault, key_path, must_hold, no_others};
 use dr_base::{Callout, Name, Text};
 use toml::{Table, Value};
 

@@ -7,7 +7,7 @@ ghost use Rattle.dr_inventory.specs.Tables.{machine, datastore, consistency, gro
 use crate::document::{ConsistencyEntry, DatastoreEntry, GroupEntry, MachineEntry};
 use crate::lists::must_hold_list;
 use crate::read_error::ReadError;
-use crate::walk::{FromValue, Walk, key_fault, must_hold, no_others};
+use crate::table_keys::{FromValue, Walk, key_fault, must_hold, no_others};
 use toml::{Table, Value};
 
 #[tactic(auto, using(crate::proofs::Outcome::outcome_after, crate::proofs::Outcome::outcome_found), unfolding(crate::specs::Tables::machine))]

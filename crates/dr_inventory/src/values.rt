@@ -8,7 +8,7 @@ ghost use Rattle.dr_inventory.specs.Tables.{side_of};
 ghost use Rattle.dr_inventory.specs.Maps.{kind_of};
 
 use crate::read_error::ReadError;
-use crate::walk::{FromValue, Walk, at, key_fault, key_path, name_fault};
+use crate::table_keys::{FromValue, Walk, at, key_fault, key_path, name_fault};
 use dr_base::{Kind, Name, Path, Side, Text};
 use toml::{Table, Value};
 

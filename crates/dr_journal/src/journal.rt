@@ -11,9 +11,9 @@ ghost use Rattle.dr_journal.specs.State.{IsOpen};
 ghost use Rattle.dr_journal.specs.Causes.{OpenFault, ReserveFault};
 
 use crate::JournalFault;
+use crate::file_reads::{body_at, synced_length};
 use crate::gates::OPEN_GATE;
 use crate::opening::trim;
-use crate::reading::{body_at, synced_length};
 use dr_disk::{Disk, GREATEST_LIMIT};
 use std::alloc::Global;
 use std::marker::Model;

@@ -3,12 +3,12 @@
 #![tactic(auto)]
 
 mod fault;
+mod file_reads;
+mod gate_walk;
 mod gates;
 mod journal;
 mod opening;
-mod reading;
 mod records;
-mod walk;
 mod window;
 
 pub use fault::JournalFault;

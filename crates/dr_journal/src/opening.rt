@@ -10,8 +10,8 @@ ghost use Rattle.dr_journal.specs.State.{JournalState, IsOpen};
 ghost use Rattle.dr_journal.specs.Causes.{OpenFault};
 
 use crate::JournalFault;
-use crate::reading::read_range;
-use crate::walk::find_closing_gate;
+use crate::file_reads::read_range;
+use crate::gate_walk::find_closing_gate;
 use dr_base::Failed;
 use dr_disk::{Disk, GREATEST_LIMIT};
 use std::alloc::Global;
@@ -25,6 +25,7 @@ fn is_empty<D: Disk>(disk: &mut D, size: u64) -> Result<bool, Failed>
 
     ensures empty { IfOk result (λ is. IsTrue is → (size ≡ 17)
         × ForSome (D.reads disk.old) (λ file. file ≡ header form_1 ++ 0 ∷ [])) }
+    ensures told { IfOk result (λ is. ForSome (D.reads disk.old) (λ file. file ≡ header form_1 ++ 0 ∷ [] → IsTrue is)) }
     ensures same { D.reads disk.new ≡ D.reads disk.old }
     ensures images { NoOther (D.images disk.old) (D.images disk.new) }
     ensures limit { D.limit disk.new ≡ D.limit disk.old }

@@ -1,12 +1,12 @@
 // The window through which a journal is read record after record.
-ghost use Rattle.std.specs.Prelude.{◌≡◌, ◌+◌, ◌-◌, ◌≤◌, ◌++◌, ℕ, List, length, drop, OnOk, IfErr, vec_len};
+ghost use Rattle.std.specs.Prelude.{◌≡◌, ◌+◌, ◌-◌, ◌≤◌, ◌++◌, ℕ, List, length, drop, OnOk, IfErr, vec_len, max};
 ghost use Rattle.std.specs.Option.{ForSome};
 ghost use Rattle.dr_disk.specs.Disk.{NoOther};
 ghost use Rattle.dr_journal.specs.Places.{AreAt};
 ghost use Rattle.dr_journal.specs.Causes.{ReadFault};
 
 use crate::JournalFault;
-use crate::reading::read_more;
+use crate::file_reads::read_more;
 use dr_disk::{Disk, GREATEST_LIMIT};
 
 /// The most bytes that are read by one call, but for a record that is longer.
@@ -49,6 +49,7 @@ impl Window {
         requires ends { ForSome (D.reads disk.old) (λ file. length file ≡ end) }
         requires bytes { ForSome (D.reads disk.old) (λ file. AreAt file self.old.start self.old.bytes.items) }
 
+        ensures room { vec_len self.new.bytes ≤ max (vec_len self.old.bytes) (max 65536 size) }
         ensures held { OnOk result (at + size ≤ self.new.start + vec_len self.new.bytes) }
         ensures first { self.new.start ≤ at }
         ensures last { at ≤ self.new.start + vec_len self.new.bytes }

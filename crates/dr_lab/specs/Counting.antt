@@ -16,7 +16,7 @@ use Rattle.dr_outside.specs.declared.runner.RunnerFail.{RunnerFail}
 use Rattle.dr_outside.specs.declared.runner.RunnerFail.TheVariants as runners
 use Rattle.dr_outside.specs.declared.pair.Pair.{Pair}
 use Rattle.dr_outside.specs.declared.pair.Half.{Half}
-use Rattle.dr_outside.specs.Arrays.{is_listed}
+use Rattle.dr_base.specs.Lists.{has}
 use Rattle.dr_outside.specs.BySide.{at, put}
 use Rattle.dr_outside.specs.Counts.{one_more_at}
 use Rattle.dr_outside.specs.Machines.{is_ready_for, post_after}
@@ -87,5 +87,5 @@ Makes call old (Err shown) = (is_fit call old ≡ false) × (shown ≡ half (tar
 -- a pair that is named is one of the list
 abbrev pub NamesOne : List ℕ → Result (Option (ℕ × Half)) Side → Type 0
 NamesOne list (Ok None) = Unit {0}
-NamesOne list (Ok (Some named)) = is_listed list named.0 ≡ true
+NamesOne list (Ok (Some named)) = has list named.0 ≡ true
 NamesOne list (Err side) = Unit {0}

@@ -39,7 +39,7 @@ abbrev pub code_with : Option ℕ → List Kept → ℕ → Option ℕ
 code_with None commands token = code_of commands token
 code_with (Some code) commands token = Some code
 
--- lines are taken off the front until fewer than `least` bytes are left, and a code is looked for; or none stands there
+-- what it comes to that lines are read from the front of these bytes while `least` or more are left: the code that was known, or that those lines keep for a token, and the bytes left; or nothing, where no line stands in front
 abbrev pub TakesLines : ℕ → ℕ → Option ℕ → List ℕ → Option (Option ℕ × List ℕ) → Type 0
 TakesLines least token code bytes (Some p) = (commands : List Kept) × BeginsWith bytes commands p.1 × (length p.1 < least) × (p.0 ≡ code_with code commands token)
 TakesLines least token code bytes None = (commands : List Kept) × (rest : List ℕ) × BeginsWith bytes commands rest × (least ≤ length rest) × NoneThere IsKept kept_text rest

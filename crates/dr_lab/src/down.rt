@@ -1,24 +1,36 @@
 //! Sides that are down, so that an operator can rehearse the loss of a site.
 
-ghost use Rattle.std.specs.Prelude.{◌≡◌};
+ghost use Rattle.std.specs.Prelude.{◌≡◌, IfOk, OnErr, IsTrue};
 ghost use Rattle.dr_lab.specs.Counting.{fault_side, LosesAt};
+ghost use Rattle.dr_lab.specs.FileNames.{down_file};
 
 use dr_base::Side;
 use dr_outside::{ArrayCall, Pair, Sides};
-use std::fs;
 use std::rt::Files;
+use std::{fs, io};
+
+// The name of the file that lies there while a side is down.
+fn down_file(side: Side) -> &'static str
+    ensures { result.now ≡ down_file side }
+{
+    match side {
+        Side::A => "A.down",
+        Side::B => "B.down",
+    }
+}
+
+// Whether a side is down, by what the system told of its file. It is where the system refuses to tell.
+fn is_down_by(told: io::Result<bool>) -> bool
+    ensures told { IfOk told (λ there. result ≡ there) }
+    ensures untold { OnErr told (IsTrue result) }
+{
+    told.unwrap_or(true)
+}
 
 /// Whether a side is down: whether there is a file of its name. A side counts as down too where the
 /// system refuses to tell.
 pub(crate) fn is_down<F: Files>(rt: &F, side: Side) -> bool {
-    let name = match side {
-        Side::A => "A.down",
-        Side::B => "B.down",
-    };
-    match fs::exists(rt, name) {
-        Ok(there) => there,
-        Err(_) => true,
-    }
+    is_down_by(fs::exists(rt, down_file(side)))
 }
 
 /// Which sides are down.

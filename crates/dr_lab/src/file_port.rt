@@ -30,7 +30,7 @@ pub struct FilePort<F> {
 }
 
 // What a call makes of a machine's posts. Or the post that isn't as the call needs it.
-fn turned(sides: &Sides<Post>, call: &PortCall, side: Side) -> Result<Sides<Post>, Post>
+fn posts_after(sides: &Sides<Post>, call: &PortCall, side: Side) -> Result<Sides<Post>, Post>
     ensures { Turns call.now side sides.now result }
 {
     let found = sides.at(side);
@@ -78,7 +78,7 @@ impl<F: Files> FilePort<F> {
             Ok(sides) => sides,
             Err(Failed) => return Err(self.failed(side)),
         };
-        match turned(&sides, call, side) {
+        match posts_after(&sides, call, side) {
             Ok(sides) => match write_machine_file(&self.rt, self.machine, &sides) {
                 Ok(()) => Ok(()),
                 Err(Failed) => Err(self.failed(side)),

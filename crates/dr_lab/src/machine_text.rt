@@ -65,7 +65,7 @@ fn placed(bytes: &[u8]) -> Option<(Placed, &[u8])>
     }
 }
 
-fn turned(power: Power, placed: &Placed) -> Post
+fn post_of(power: Power, placed: &Placed) -> Post
     ensures { result ≡ post_of (Some (power, placed.now)) }
 {
     match power {
@@ -84,7 +84,7 @@ fn post<'a>(bytes: &'a [u8], front: &[u8]) -> Option<(Post, &'a [u8])>
         None => None,
         Some((None, rest)) => Some((Post::Placeholder, rest)),
         Some((Some(power), rest)) => match placed(rest) {
-            Some((placed, rest)) => Some((turned(power, &placed), rest)),
+            Some((placed, rest)) => Some((post_of(power, &placed), rest)),
             None => None,
         },
     }

@@ -1,7 +1,9 @@
 //! Files of a site: read whole, and replaced whole.
 
-ghost use Rattle.std.specs.Prelude.{◌≡◌, ◌+◌, ◌≤◌, ◌++◌, length, codes, decimal};
+ghost use Rattle.std.specs.Prelude.{◌≡◌, ◌≢◌, ◌+◌, ◌≤◌, ◌++◌, Some, None, Ok, Err, IfOk, IfErr, length, codes, decimal};
+ghost use Rattle.std.specs.IoError.{error_kind};
 ghost use Rattle.arrayvec.specs.ArrayString.{array_string_len};
+ghost use Rattle.dr_base.specs.Memory.{failed};
 ghost use Rattle.dr_lab.specs.FileNames.{pair_file, machine_file, kept_file, beside};
 
 use crate::fields::SmallText;
@@ -14,10 +16,10 @@ use arrayvec::ArrayString;
 use dr_base::Failed;
 use dr_outside::{Kept, Pair, Post, Sides};
 use itoa::Buffer;
-use std::fs;
 use std::fs::{OpenFile, OpenOptions};
 use std::io::{ErrorKind, Read, Write};
 use std::rt::Files;
+use std::{fs, io};
 
 /// The name of a file.
 pub(crate) type FileName = ArrayString<32>;
@@ -91,15 +93,24 @@ pub(crate) fn runner_file() -> FileName
     name
 }
 
-// The file of this name, open for reading. `None` where there is none.
-fn open<F: Files>(rt: &F, name: &str) -> Result<Option<F::File>, Failed> {
-    let mut how = OpenOptions::new();
-    how.read(true);
-    match how.open(rt, name) {
+// What the system made of a look for a file. `None` only where it told that there is none.
+fn found<T: Drop>(look: io::Result<T>) -> Result<Option<T>, Failed>
+    ensures there { IfOk look (λ file. result ≡ Ok (Some file)) }
+    ensures none { IfErr look (λ e. error_kind e ≡ ErrorKind.NotFound → result ≡ Ok None) }
+    ensures refused { IfErr look (λ e. error_kind e ≢ ErrorKind.NotFound → result ≡ Err failed) }
+{
+    match look {
         Ok(file) => Ok(Some(file)),
         Err(error) if error.kind() == ErrorKind::NotFound => Ok(None),
         Err(_) => Err(Failed),
     }
+}
+
+// The file of this name, open for reading. `None` where there is none.
+fn open<F: Files>(rt: &F, name: &str) -> Result<Option<F::File>, Failed> {
+    let mut how = OpenOptions::new();
+    how.read(true);
+    found(how.open(rt, name))
 }
 
 fn length_of<H: OpenFile>(file: &H) -> Result<u64, Failed> {
@@ -237,16 +248,13 @@ pub(crate) fn code_kept<F: Files>(
 
 // A copy of the file beside it, open for writing at its end. It is empty where there is no file.
 fn copy_beside<F: Files>(rt: &F, beside: &str, name: &str) -> Result<F::File, Failed> {
-    match fs::copy(rt, name, beside) {
-        Ok(_) => {
-            let mut how = OpenOptions::new();
-            how.append(true);
-            match how.open(rt, beside) {
-                Ok(file) => Ok(file),
-                Err(_) => Err(Failed),
-            }
-        }
-        Err(error) if error.kind() == ErrorKind::NotFound => create(rt, beside),
+    if found(fs::copy(rt, name, beside))?.is_none() {
+        return create(rt, beside);
+    }
+    let mut how = OpenOptions::new();
+    how.append(true);
+    match how.open(rt, beside) {
+        Ok(file) => Ok(file),
         Err(_) => Err(Failed),
     }
 }

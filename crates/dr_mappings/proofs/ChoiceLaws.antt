@@ -14,7 +14,7 @@ use Rattle.dr_inventory.specs.declared.estate.MapRow.{MapRow}
 use Rattle.dr_inventory.specs.declared.estate.Machine.{Machine}
 use Rattle.dr_inventory.specs.declared.estate.Estate.{Estate}
 use Rattle.dr_inventory.specs.Maps.{tag_of, map_key}
-use Rattle.dr_inventory.specs.Sound.{IsSound}
+use Rattle.dr_inventory.specs.Sound.{IsSoundEstate}
 use Rattle.dr_mappings.specs.Lookups.{same_kind, is_for, leads_from, mapped, covers, is_at_or_above, nearest, mapped_folder}
 use Rattle.dr_mappings.specs.Placements.{place_of}
 use Rattle.dr_mappings.proofs.AboveLaws.{front_of}
@@ -51,7 +51,7 @@ folder_key side folder m h =
     ap (λ t. t ∷ m.from) (tag_is Folder side m both.0) ∙ ap (λ xs. tag_of Folder side ∷ xs) (front_of m.from folder both.1)
 
 -- a map of this kind, side and name is the one that counts
-pub one_counts : (e : Estate) (kind : Kind) (side : Side) (name : List ℕ) (m : MapRow) → IsSound e → Contains e.maps m → leads_from kind side name m ≡ true → mapped e.maps kind side name ≡ Some m.to
+pub one_counts : (e : Estate) (kind : Kind) (side : Side) (name : List ℕ) (m : MapRow) → IsSoundEstate e → Contains e.maps m → leads_from kind side name m ≡ true → mapped e.maps kind side name ≡ Some m.to
 one_counts e kind side name m sound here leads =
     let test = leads_from kind side name in
     let r = find_passes test e.maps m here leads in
@@ -72,7 +72,7 @@ none_leads e kind side name m none here leads =
     some_to (find (leads_from kind side name) e.maps) r.0 r.1 none
 
 -- a map that covers the folder, and none from a longer one, is the one that counts
-pub nearest_counts : (e : Estate) (side : Side) (folder : List ℕ) (m : MapRow) → IsSound e → Contains e.maps m → covers side folder m ≡ true
+pub nearest_counts : (e : Estate) (side : Side) (folder : List ℕ) (m : MapRow) → IsSoundEstate e → Contains e.maps m → covers side folder m ≡ true
     → ((other : MapRow) → Contains e.maps other → covers side folder other ≡ true → length other.from ≤ length m.from) → mapped_folder e.maps side folder ≡ Some m.to
 nearest_counts e side folder m sound here covered longest =
     let test = covers side folder in

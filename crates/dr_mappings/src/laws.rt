@@ -6,14 +6,14 @@ ghost use Rattle.dr_base.specs.declared.placement.Kind.{Kind as KindValue};
 ghost use Rattle.dr_inventory.specs.declared.estate.MapRow.{MapRow as MapValue};
 ghost use Rattle.dr_inventory.specs.declared.estate.Machine.{Machine as MachineValue};
 ghost use Rattle.dr_inventory.specs.declared.estate.Estate.{Estate as EstateValue};
-ghost use Rattle.dr_inventory.specs.Sound.{IsSound};
+ghost use Rattle.dr_inventory.specs.Sound.{IsSoundEstate};
 ghost use Rattle.dr_mappings.specs.Lookups.{leads_from, mapped, covers, mapped_folder};
 ghost use Rattle.dr_mappings.specs.Placements.{place_of};
 
 /// A name is mapped by the one map of its kind, side and name, wherever that stands among the maps, and
 /// by none only where there is none.
 pub fn a_name_is_mapped_by_its_one_map()
-    ensures one { (estate : EstateValue) (kind : KindValue) (side : SideValue) (name : List ℕ) (row : MapValue) → IsSound estate → Contains estate.maps row → IsTrue (leads_from kind side name row) →
+    ensures one { (estate : EstateValue) (kind : KindValue) (side : SideValue) (name : List ℕ) (row : MapValue) → IsSoundEstate estate → Contains estate.maps row → IsTrue (leads_from kind side name row) →
         mapped estate.maps kind side name ≡ Some row.to }
     ensures none { (estate : EstateValue) (kind : KindValue) (side : SideValue) (name : List ℕ) (row : MapValue) → mapped estate.maps kind side name ≡ None → Contains estate.maps row →
         ¬ IsTrue (leads_from kind side name row) }
@@ -22,7 +22,7 @@ pub fn a_name_is_mapped_by_its_one_map()
 /// A folder is mapped by the map that leads from the longest of the folder itself and those above it,
 /// wherever that stands among the maps, and by none only where there is none.
 pub fn a_folder_is_mapped_by_the_nearest_map()
-    ensures nearest { (estate : EstateValue) (side : SideValue) (folder : List ℕ) (row : MapValue) → IsSound estate → Contains estate.maps row → IsTrue (covers side folder row) →
+    ensures nearest { (estate : EstateValue) (side : SideValue) (folder : List ℕ) (row : MapValue) → IsSoundEstate estate → Contains estate.maps row → IsTrue (covers side folder row) →
         ((other : MapValue) → Contains estate.maps other → IsTrue (covers side folder other) → length other.from ≤ length row.from) → mapped_folder estate.maps side folder ≡ Some row.to }
     ensures none { (estate : EstateValue) (side : SideValue) (folder : List ℕ) (row : MapValue) → mapped_folder estate.maps side folder ≡ None → Contains estate.maps row →
         ¬ IsTrue (covers side folder row) }

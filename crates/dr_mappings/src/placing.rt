@@ -2,7 +2,7 @@
 
 ghost use Rattle.std.specs.Prelude.{◌≡◌, ◌≢◌, ◌<◌, length, All, Some, None, option_and_then, if◌then◌else◌};
 ghost use Rattle.dr_base.specs.declared.placement.Kind.TheVariants as kinds;
-ghost use Rattle.dr_inventory.specs.Sound.{IsSound, HasSingleNames};
+ghost use Rattle.dr_inventory.specs.Sound.{IsSoundEstate, HasSingleNames};
 ghost use Rattle.dr_mappings.specs.Lookups as lookups;
 ghost use Rattle.dr_mappings.specs.Placements.{at_side, place_of};
 
@@ -59,7 +59,7 @@ pub fn place(
     side: Side,
     bubble: bool,
 ) -> Result<Placement, Unmapped>
-    requires sound { IsSound estate.now }
+    requires sound { IsSoundEstate estate.now }
     requires declared { machine < length estate.now.machines }
 
     ensures { result ≡ place_of estate.now machine home side bubble }

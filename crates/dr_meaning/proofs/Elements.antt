@@ -2,7 +2,7 @@
 use Rattle.std.specs.Prelude.{◌≡◌, ℕ, zero, suc, ◌==◌, ◌⊎◌, Bool, true, false, ◌||◌, List, [], ◌∷◌, Contains, cond, filter}
 use Rattle.std.proofs.Common.{refl, ap, ◌∙◌, inl, inr, subst, arith}
 use Rattle.std.proofs.lemmas.Bool.{eq-eqb, eqb-true, ne_eqb, cases_eq}
-use Rattle.dr_meaning.specs.Stages.{has}
+use Rattle.dr_base.specs.Lists.{has}
 use Rattle.dr_meaning.proofs.Lists.{Each, Some_of}
 
 -- an element is some element

@@ -9,14 +9,14 @@ use Rattle.dr_outside.specs.Pairs.{frame_of}
 use Rattle.dr_meaning.specs.Types.{Side, Op, Pair, PlanMachine, Plan, Estate, StageKind, Stage, StartRow, Record}
 use Rattle.dr_meaning.specs.StartUp.{is_started}
 use Rattle.dr_meaning.specs.Worlds.{World}
-use Rattle.dr_meaning.specs.Stages.{has}
+use Rattle.dr_base.specs.Lists.{has}
 use Rattle.dr_meaning.specs.Visits.{Visit, all}
 use Rattle.dr_meaning.specs.Runs.{Setting, Run, number, op, new, last_of_group, protected_side}
 use Rattle.dr_meaning.specs.Outcomes.{made_frame, made_post}
 use Rattle.dr_meaning.specs.Reach.{stage_of, works}
 use Rattle.dr_meaning.specs.Expected.{wanted}
 use Rattle.dr_meaning.specs.Fits.{is_recovery, is_done_whole, IsTestReplicated, HoldsOldWrites, HoldsNewWrites, HoldsAll, ReadsAtMostIn}
-use Rattle.dr_meaning.specs.InOrder.{keeps, is_ready_at_new, IsPairOfMachine, IsServing, MayRun}
+use Rattle.dr_meaning.specs.InOrder.{has_code, is_ready_at_new, IsPairOfMachine, IsServing, MayRun}
 
 -- Plans ----------------------------------------------------------------------------------------------------------
 
@@ -61,7 +61,7 @@ IsPlain (Record.Finish n moment ms) = ⊥
 -- Done ---------------------------------------------------------------------------------------------------------------
 
 -- what the Done of a replication or of a freezing says of a pair's writes
-pub record Shows (k : ℕ) (pair : Pair) (run : Run) (kind : StageKind) : Type 0 where
+pub record ShowsDone (k : ℕ) (pair : Pair) (run : Run) (kind : StageKind) : Type 0 where
   pub tested : op run ≡ Op.Testing → kind ≡ StageKind.Sync → IsTestReplicated k pair run
   pub replicated : is_recovery (op run) ≡ true → (kind ≡ StageKind.Sync) ⊎ (kind ≡ StageKind.FinalSync) → HoldsOldWrites k pair run
   pub kept_all : is_recovery (op run) ≡ true → ((kind ≡ StageKind.FinalSync) × (is_done_whole run StageKind.Prepare ≡ true)) ⊎ ((kind ≡ StageKind.Prepare) × (is_done_whole run StageKind.FinalSync ≡ true)) → HoldsAll run.old pair
@@ -70,7 +70,7 @@ pub record Shows (k : ℕ) (pair : Pair) (run : Run) (kind : StageKind) : Type 0
 -- a pair is made by the visit's stage, or all pairs were skipped; where they weren't, it shows what the Done says
 pub record BacksPair (world : World) (run : Run) (visit : Visit) (k : ℕ) : Type 0 where
   pub made : (has visit.excused all ≡ true) ⊎ (made_frame run (stage_of run visit).kind (frame_of (world.pair k)) ≡ frame_of (world.pair k))
-  pub shows : has visit.excused all ≡ false → Shows k (world.pair k) run (stage_of run visit).kind
+  pub shows : has visit.excused all ≡ false → ShowsDone k (world.pair k) run (stage_of run visit).kind
 
 -- a machine of a group is made by the visit's stage, where that works it, or was excused
 abbrev pub BacksPost : World → Run → Visit → (g m : ℕ) → Type 0
@@ -99,7 +99,7 @@ Names plan machine = (m : PlanMachine) × Contains plan.machines m × ((machine 
 -- what may change for a run that starts machines: nothing that they rest on is lost, and each that was started anew may be so
 pub record KeepsOrder (old new_world : World) (run : Run) : Type 0 where
   pub ready : (m : ℕ) → Names run.plan m → is_ready_at_new old run m ≡ true → is_ready_at_new new_world run m ≡ true
-  pub kept : (m t : ℕ) → keeps (old.kept m) t ≡ true → keeps (new_world.kept m) t ≡ true
-  pub runner : (t : ℕ) → keeps old.runner t ≡ true → keeps new_world.runner t ≡ true
+  pub kept : (m t : ℕ) → has_code (old.kept m) t ≡ true → has_code (new_world.kept m) t ≡ true
+  pub runner : (t : ℕ) → has_code old.runner t ≡ true → has_code new_world.runner t ≡ true
   pub serving : (m : PlanMachine) (k : ℕ) → Contains run.plan.machines m → IsPairOfMachine run.estate m.machine k → IsServing (op run) (number run) (old.pair k) → IsServing (op run) (number run) (new_world.pair k)
   pub starts : AllByRecursion (λ m. is_started (at (new run) (new_world.post m.machine)) ≡ true → (is_started (at (new run) (old.post m.machine)) ≡ true) ⊎ MayRun new_world run m) run.plan.machines

@@ -12,7 +12,7 @@ use Rattle.dr_meaning.specs.Outcomes.{PostOutcome}
 use Rattle.dr_meaning.specs.Reach.{works}
 use Rattle.dr_meaning.specs.Expected.{wanted}
 use Rattle.dr_meaning.specs.InOrder.{MayRun}
-use Rattle.dr_meaning.specs.Sound.{SameConsistency}
+use Rattle.dr_groups.specs.Consistency.{SameConsistency}
 
 -- The array --------------------------------------------------------------------------------------------
 

@@ -9,10 +9,11 @@ use Rattle.dr_outside.specs.Pairs.{Drift}
 use Rattle.dr_meaning.specs.Types.{Side, Op, Callout, Step, PlanMachine, Kept, StageKind, Stage, StartRow, StartPair, Record}
 use Rattle.dr_meaning.specs.Testing.{DriftsButSnapshot}
 use Rattle.dr_meaning.specs.Worlds.{World}
-use Rattle.dr_meaning.specs.Stages.{has, stage_at, stages}
-use Rattle.dr_meaning.specs.Runs.{Setting, Run, Taken, number, op, new, root, migration, holds, run_named, stages_of, group_state, protected_side, runs_of}
-use Rattle.dr_meaning.specs.Lawful.{plan_machine, token_of}
-use Rattle.dr_meaning.specs.Fits.{row_of}
+use Rattle.dr_base.specs.Lists.{has}
+use Rattle.dr_meaning.specs.Stages.{stage_at, stages}
+use Rattle.dr_meaning.specs.Runs.{Setting, Run, TakenOver, number, op, new, root, migration, holds, run_named, stages_of, group_state, protected_side, runs_of}
+use Rattle.dr_meaning.specs.Lawful.{machine_in_plan, token_of}
+use Rattle.dr_meaning.specs.Fits.{pair_row}
 use Rattle.dr_meaning.specs.Journals.{HasRecords, IsLawful}
 use Rattle.dr_meaning.specs.Images.{AreKept, Keeps}
 
@@ -64,7 +65,7 @@ abbrev pub Began : List Stage → List Record → (Stage → Type 0) → Type 0
 Began stages log Is = (k : ℕ) × (list_any (begins k) log ≡ true) × Is (stage_at stages k)
 
 -- the same in a run that was taken over
-abbrev pub TakenBegan : Option Taken → (Stage → Type 0) → Type 0
+abbrev pub TakenBegan : Option TakenOver → (Stage → Type 0) → Type 0
 TakenBegan None Is = ⊥
 TakenBegan (Some taken) Is = Began (stages taken.plan taken.start.op taken.start.forced) taken.log Is
 
@@ -90,7 +91,7 @@ pub record IsMachineCommand (runs : List Run) (machine : ℕ) (kept : Kept) : Ty
   pub run : Run
   pub listed : Contains runs run
   pub index : ℕ
-  pub command : slice_get (all_commands_of (plan_machine run.plan machine)) index ≡ Some (Some kept.name)
+  pub command : slice_get (all_commands_of (machine_in_plan run.plan machine)) index ≡ Some (Some kept.name)
   pub token : kept.token ≡ token_of (root run) index
   pub side : kept.side ≡ Some (new run)
   pub begun : HasBegun run (StartsMachine machine)
@@ -147,7 +148,7 @@ new_writes_of (Some row) = row.new_writes
 -- the least writes that a later Start may give of a pair: those that were there, or, since a reverse discards writes, those that the reprotect's Start read at its new side
 abbrev pub least_of : ℕ → (was : ℕ) → Option Run → ℕ
 least_of pair was None = was
-least_of pair was (Some reprotect) = new_writes_of (row_of pair reprotect.start)
+least_of pair was (Some reprotect) = new_writes_of (pair_row pair reprotect.start)
 
 -- the same of a side, by what was there at the call's beginning and the last reprotect since
 abbrev pub least_at : (group pair : ℕ) → List Record → List Run → World → Side → ℕ
@@ -167,7 +168,7 @@ abbrev pub ReadTruly : Setting → (List ℕ → Type 0) → (was earlier : List
 ReadTruly setting images was earlier row old =
     NoneHas images (Record.Start row) →
     (g p : ℕ) → IsPairOf setting.estate g p → IsTrue (has row.groups g) →
-    IfSome (row_of p row) (ReadsAtLeast (least_at g p earlier (runs_of setting (was ++ earlier)) old) (protected_side setting row.groups (runs_of setting (was ++ earlier))))
+    IfSome (pair_row p row) (ReadsAtLeast (least_at g p earlier (runs_of setting (was ++ earlier)) old) (protected_side setting row.groups (runs_of setting (was ++ earlier))))
 
 -- One call -----------------------------------------------------------------------------------------------------
 

@@ -6,16 +6,16 @@ use Rattle.dr_outside.specs.BySide.{at}
 use Rattle.dr_outside.specs.Pairs.{frame_of}
 use Rattle.dr_meaning.specs.Stages.{stages}
 use Rattle.dr_meaning.specs.Visits.{Visit, is_visit_done, is_excused, all}
-use Rattle.dr_meaning.specs.Runs.{Run, Taken, migration, number, op, new, stages_of, root, holds, last_of_group}
+use Rattle.dr_meaning.specs.Runs.{Run, TakenOver, migration, number, op, new, stages_of, root, holds, last_of_group}
 use Rattle.dr_meaning.specs.Meaning.{last_visit_in, is_of_kind}
 use Rattle.dr_meaning.specs.Expected.{ExpectedFrame, ExpectedPost}
 
 -- the pair's row in a Start
-abbrev pub row_of : ℕ → StartRow → Option StartPair
-row_of pair start = find (λ row. row.pair == pair) start.pairs
+abbrev pub pair_row : ℕ → StartRow → Option StartPair
+pair_row pair start = find (λ row. row.pair == pair) start.pairs
 
 -- the Start of the migration that was taken over, else the run's own
-abbrev pub start_or : StartRow → Option Taken → StartRow
+abbrev pub start_or : StartRow → Option TakenOver → StartRow
 start_or start None = start
 start_or start (Some taken) = taken.start
 
@@ -57,7 +57,7 @@ pub record ReadsAtMost (old : Side) (pair : Pair) (row : StartPair) : Type 0 whe
 
 -- so it is, where the Start names the pair
 abbrev pub ReadsAtMostIn : ℕ → Pair → Side → StartRow → Type 0
-ReadsAtMostIn number pair old start = IfSome (row_of number start) (ReadsAtMost old pair)
+ReadsAtMostIn number pair old start = IfSome (pair_row number start) (ReadsAtMost old pair)
 
 -- a live pair has one line, and its target at most its source's writes
 pub record IsReplicating (pair : Pair) : Type 0 where
@@ -68,7 +68,7 @@ pub record IsReplicating (pair : Pair) : Type 0 where
 pub record IsSplitBy (number : ℕ) (pair : Pair) (new : Side) (root : ℕ) (start : StartRow) : Type 0 where
   pub line : (at new pair.content).line ≡ root
   pub base : (at new pair.content).base ≤ (at new pair.content).writes
-  pub at_least : IfSome (row_of number start) (λ row. row.new_writes ≤ (at new pair.content).base)
+  pub at_least : IfSome (pair_row number start) (λ row. row.new_writes ≤ (at new pair.content).base)
 
 -- so it is, where this run split the pair
 abbrev pub IsSplitIn : ℕ → Pair → Run → Type 0
@@ -85,17 +85,17 @@ pub record HoldsAll (old : Side) (pair : Pair) : Type 0 where
   pub frozen : at old pair.writable ≡ false
   pub equal : held old pair ≡ (at old pair.content).writes
 
--- a test's replication of a pair that its Start names left it so
+-- a test has replicated a pair, where its Start names it
 abbrev pub IsTestReplicated : ℕ → Pair → Run → Type 0
-IsTestReplicated number pair run = IfSome (row_of number run.start) (IsReplicatedTest run.start.run run.old pair)
+IsTestReplicated number pair run = IfSome (pair_row number run.start) (IsReplicatedTest run.start.run run.old pair)
 
 -- the new side has at least the writes that a run's Start read at the old side, where it read them
 abbrev pub HoldsOldWrites : ℕ → Pair → Run → Type 0
-HoldsOldWrites number pair run = IfSome (row_of number run.start) (λ row. row.seen ≡ true → row.old_writes ≤ held run.old pair)
+HoldsOldWrites number pair run = IfSome (pair_row number run.start) (λ row. row.seen ≡ true → row.old_writes ≤ held run.old pair)
 
 -- the old side has at least the writes that a run's Start read at the new side: a reprotect has replicated them back
 abbrev pub HoldsNewWrites : ℕ → Pair → Run → Type 0
-HoldsNewWrites number pair run = IfSome (row_of number run.start) (λ row. row.new_writes ≤ (at run.old pair.content).writes)
+HoldsNewWrites number pair run = IfSome (pair_row number run.start) (λ row. row.new_writes ≤ (at run.old pair.content).writes)
 
 -- whether Prepare and FinalSync are done and not skipped, by a run's stages and log
 abbrev pub is_frozen_in : List Stage → List Record → Bool
@@ -106,7 +106,7 @@ abbrev pub is_frozen_and_replicated : Run → Bool
 is_frozen_and_replicated run = is_frozen_in (stages_of run) run.log
 
 -- the same of a run that was taken over
-abbrev pub was_frozen_and_replicated : Taken → Bool
+abbrev pub was_frozen_and_replicated : TakenOver → Bool
 was_frozen_and_replicated taken = is_frozen_in (stages taken.plan taken.start.op taken.start.forced) taken.log
 
 -- what the group's last run, open or finished, says of a pair's writes

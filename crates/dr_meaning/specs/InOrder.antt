@@ -23,8 +23,8 @@ is_aside machine (Record.Aside run m by) = m == machine
 is_aside machine _ = false
 
 -- whether a code is kept for a token
-abbrev pub keeps : List Kept → ℕ → Bool
-keeps kept token = is_some (code_of kept token)
+abbrev pub has_code : List Kept → ℕ → Bool
+has_code kept token = is_some (code_of kept token)
 
 -- whether an operation starts machines: a test, a migration or a failover
 abbrev pub is_start_up : Op → Bool
@@ -50,7 +50,7 @@ IsServing _ run pair = pair.link ≡ Link.Split
 
 -- a step is taken: its command is kept by the runner, or its prompt has an Answer
 abbrev pub StepTaken : (runner : List Kept) → Run → ℕ → Callout → Type 0
-StepTaken runner run number (Callout.Command name) = IsTrue (keeps runner (token_of (root run) number))
+StepTaken runner run number (Callout.Command name) = IsTrue (has_code runner (token_of (root run) number))
 StepTaken runner run number (Callout.Prompt text) = IsTrue (is_answered run number)
 
 -- each step before this priority or an earlier one is taken, where the first of these has this number
@@ -69,7 +69,7 @@ pub record MayRun (world : World) (run : Run) (machine : PlanMachine) : Type 0 w
       (λ m. m.priority < machine.priority → (is_ready_at_new world run m.machine ≡ true) ⊎ (list_any (is_aside m.machine) run.log ≡ true))
       run.plan.machines
   -- its own commands before power-on ran
-  pub commands : AllByRecursion (λ t. IsTrue (keeps (world.kept machine.machine) t)) (tokens_from (root run) 0 (take 2 machine.commands))
+  pub commands : AllByRecursion (λ t. IsTrue (has_code (world.kept machine.machine) t)) (tokens_from (root run) 0 (take 2 machine.commands))
   -- the plan's steps before it are taken
   pub steps : StepsTaken world.runner run machine.priority 1 run.plan.steps
   -- the pairs of its datastores serve it

@@ -3,9 +3,10 @@ use Rattle.std.specs.Prelude.{◌≡◌, ◌≢◌, ℕ, ◌+◌, ◌*◌, ◌^�
 use Rattle.std.specs.List.{list_any, AllByRecursion}
 use Rattle.std.specs.List.Sorted.{IsStrictlyIncreasing}
 use Rattle.dr_meaning.specs.Types.{Op, Phase, GroupState, PlanMachine, Plan, StageKind, Stage, StartPair, StartRow, Record}
-use Rattle.dr_meaning.specs.Stages.{has, stage_at}
+use Rattle.dr_base.specs.Lists.{has}
+use Rattle.dr_meaning.specs.Stages.{stage_at}
 use Rattle.dr_meaning.specs.Visits.{begun, all, is_skipped, is_excused, last_visit}
-use Rattle.dr_meaning.specs.Runs.{Setting, Run, Taken, migration, number, op, stages_of, holds, is_open, group_state, protected_side, run_at, add_record, root}
+use Rattle.dr_meaning.specs.Runs.{Setting, Run, TakenOver, migration, number, op, stages_of, holds, is_open, group_state, protected_side, run_at, add_record, root}
 use Rattle.dr_meaning.specs.Meaning.{is_left}
 use Rattle.dr_meaning.specs.Next.{next_stage, least_undone}
 
@@ -17,7 +18,7 @@ is_answer step (Record.Answer run s text) = s == step
 is_answer step _ = false
 
 -- whether a run that was taken over has an Answer for the step
-abbrev pub was_answered : ℕ → Option Taken → Bool
+abbrev pub was_answered : ℕ → Option TakenOver → Bool
 was_answered step None = false
 was_answered step (Some taken) = list_any (is_answer step) taken.log
 
@@ -50,12 +51,12 @@ tokens_of_machine root None = []
 tokens_of_machine root (Some machine) = tokens_from root 0 machine.commands
 
 -- what a plan says of a machine
-abbrev pub plan_machine : Plan → ℕ → Option PlanMachine
-plan_machine plan machine = find (λ m. m.machine == machine) plan.machines
+abbrev pub machine_in_plan : Plan → ℕ → Option PlanMachine
+machine_in_plan plan machine = find (λ m. m.machine == machine) plan.machines
 
 -- the tokens of a machine in a run
 abbrev pub tokens : Run → ℕ → List ℕ
-tokens run machine = tokens_of_machine (root run) (plan_machine run.plan machine)
+tokens run machine = tokens_of_machine (root run) (machine_in_plan run.plan machine)
 
 -- the machines that one depends on
 abbrev pub dependencies_of : Option PlanMachine → List ℕ
@@ -64,7 +65,7 @@ dependencies_of (Some machine) = machine.after
 
 -- the machines that one depends on in a run
 abbrev pub dependencies : Run → ℕ → List ℕ
-dependencies run machine = dependencies_of (plan_machine run.plan machine)
+dependencies run machine = dependencies_of (machine_in_plan run.plan machine)
 
 -- Start ------------------------------------------------------------------------------------------------
 

@@ -5,7 +5,8 @@ use Rattle.dr_meaning.specs.Types.{Side, Op, Placed, Post, StageKind, Stage, Rec
 use Rattle.dr_outside.specs.Pairs.{Frame}
 use Rattle.dr_base.specs.Sides.{same_side}
 use Rattle.dr_meaning.specs.Testing.{with_snapshot}
-use Rattle.dr_meaning.specs.Stages.{has, stage_at}
+use Rattle.dr_base.specs.Lists.{has}
+use Rattle.dr_meaning.specs.Stages.{stage_at}
 use Rattle.dr_meaning.specs.Visits.{Visit, visits, all, is_excused}
 use Rattle.dr_meaning.specs.Runs.{Run, number, op, stages_of}
 use Rattle.dr_meaning.specs.Outcomes.{split_frame, frozen_frame, reversed_frame, stopped, PostOutcome}

@@ -4,7 +4,8 @@ use Rattle.std.specs.Bool.{MatchBool}
 use Rattle.dr_meaning.specs.Types.{Side, Op, Placed, Post, StageKind, Stage}
 use Rattle.dr_outside.specs.Pairs.{Frame}
 use Rattle.dr_base.specs.Sides.{other, same_side}
-use Rattle.dr_meaning.specs.Stages.{has, stage_at}
+use Rattle.dr_base.specs.Lists.{has}
+use Rattle.dr_meaning.specs.Stages.{stage_at}
 use Rattle.dr_meaning.specs.Visits.{Visit, visits, all}
 use Rattle.dr_meaning.specs.Runs.{Run, op, stages_of}
 use Rattle.dr_meaning.specs.Outcomes.{made_frame, FrameOutcome, made_post, PostOutcome}
@@ -22,7 +23,7 @@ is_complete machine visit = visit.done && not (has visit.excused machine)
 abbrev pub stage_of : Run → Visit → Stage
 stage_of run visit = stage_at (stages_of run) visit.stage
 
--- a complete visit leaves what its stage makes, any other one of the stage's outcomes
+-- y is left over a visit: what its stage makes, if the visit is complete, and else one of the stage's outcomes
 abbrev pub MadeOr : {X : Type 0} → (complete : Bool) → (made : X) → (Outcome : X → Type 0) → X → Type 0
 MadeOr complete made Outcome y = MatchBool complete (y ≡ made) (Outcome y)
 

@@ -3,7 +3,8 @@ use Rattle.std.specs.Prelude.{ℕ, ◌==◌, Bool, true, false, ◌&&◌, not, L
 use Rattle.std.specs.List.{list_any}
 use Rattle.dr_base.specs.Sides.{other}
 use Rattle.dr_meaning.specs.Types.{Side, Op, Phase, GroupState, Estate, GroupRow, Plan, Stage, StartRow, Record}
-use Rattle.dr_meaning.specs.Stages.{stages, has}
+use Rattle.dr_base.specs.Lists.{has}
+use Rattle.dr_meaning.specs.Stages.{stages}
 
 -- what is in force: an estate and all its plans
 pub record Setting : Type 0 where
@@ -11,7 +12,7 @@ pub record Setting : Type 0 where
   pub plans : List Plan
 
 -- a run as it stood when another took it over: it gets no more records
-pub record Taken : Type 0 where
+pub record TakenOver : Type 0 where
   pub start : StartRow
   pub plan : Plan
   pub log : List Record
@@ -26,7 +27,7 @@ pub record Run : Type 0 where
   -- its records after the Start, newest first
   pub log : List Record
   -- the run that it took over
-  pub took : Option Taken
+  pub took : Option TakenOver
   -- the run that took it over, or 0
   pub by : ℕ
 
@@ -118,7 +119,7 @@ abbrev pub run_at : ℕ → List Run → Option Run
 run_at n runs = find (λ run. number run == n) runs
 
 -- a run as one that is taken over now
-abbrev pub as_taken : Run → Taken
+abbrev pub as_taken : Run → TakenOver
 as_taken run = record { start = run.start; plan = run.plan; log = run.log }
 
 -- the protected side of a plan's first group
@@ -172,10 +173,10 @@ abbrev pub root : Run → ℕ
 root run = root_number (op run) run.start
 
 -- what a run took over, where it is a failover: that is a migration
-abbrev pub migration_of : Op → Option Taken → Option Taken
+abbrev pub migration_of : Op → Option TakenOver → Option TakenOver
 migration_of Op.Failover took = took
 migration_of _ took = None
 
 -- the migration that a failover took over
-abbrev pub migration : Run → Option Taken
+abbrev pub migration : Run → Option TakenOver
 migration run = migration_of (op run) run.took

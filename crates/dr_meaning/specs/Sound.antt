@@ -1,7 +1,8 @@
 -- A journal and the outside agree.
-use Rattle.std.specs.Prelude.{◌≡◌, ℕ, ◌<◌, ◌==◌, ◌⊎◌, List, [], Some, slice_index, if◌then◌else◌}
+use Rattle.std.specs.Prelude.{◌≡◌, ℕ, ◌<◌, ◌==◌, ◌⊎◌, List, [], Some, if◌then◌else◌}
 use Rattle.std.specs.List.{AllByRecursion}
 use Rattle.dr_groups.specs.Groups.{IsPairOf, IsMachineOf}
+use Rattle.dr_groups.specs.Consistency.{SameConsistency}
 use Rattle.dr_outside.specs.Pairs.{frame_of}
 use Rattle.dr_outside.specs.Commands.{code_of}
 use Rattle.dr_meaning.specs.Types.{Estate, Kept, Record}
@@ -28,10 +29,6 @@ IsKept world (Record.Skip run k machine) = Unit {0}
 IsKept world (Record.Aside run machine by) = Unit {0}
 IsKept world (Record.Answer run step text) = Unit {0}
 IsKept world (Record.Finish run moment machines) = Unit {0}
-
--- two pairs are of one consistency group
-abbrev pub SameConsistency : Estate → ℕ → ℕ → Type 0
-SameConsistency estate p q = slice_index estate.consistency p ≡ slice_index estate.consistency q
 
 -- the outside is as these runs leave it
 pub record IsSoundBy (setting : Setting) (runs : List Run) (world : World) : Type 0 where

@@ -58,10 +58,6 @@ stages plan Op.Reprotect forced =
     wind_down StageKind.Clear plan
     ++ array_stage StageKind.Prepare ∷ array_stage StageKind.Reverse ∷ array_stage StageKind.FinalSync ∷ []
 
--- whether the list has the number
-abbrev pub has : List ℕ → ℕ → Bool
-has numbers n = list_any (λ x. x == n) numbers
-
 -- no stage: what stands where no stage has a number
 abbrev pub no_stage : Stage
 no_stage = array_stage StageKind.Prompt

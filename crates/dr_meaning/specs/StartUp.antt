@@ -17,7 +17,7 @@ is_started (On placed) = true
 is_started (Ready placed) = true
 
 -- where a machine of the plan was started at this side, each of its dependencies is ready there as wanted, and so is each machine of the plan of an earlier priority
-pub record StartedInOrder (side : Side) (wanted : ℕ → Placed) (plan : Plan) (machine : ℕ → PortState) : Type 0 where
+pub record PlanInOrder (side : Side) (wanted : ℕ → Placed) (plan : Plan) (machine : ℕ → PortState) : Type 0 where
   pub dependencies : (m : PlanMachine) (k : ℕ) → Contains plan.machines m → is_started (at side (machine m.machine).post) ≡ true → Contains m.after k → at side (machine k).post ≡ Ready (wanted k)
   pub priorities : (earlier later : PlanMachine) → Contains plan.machines earlier → Contains plan.machines later → earlier.priority < later.priority
       → is_started (at side (machine later.machine).post) ≡ true → at side (machine earlier.machine).post ≡ Ready (wanted earlier.machine)

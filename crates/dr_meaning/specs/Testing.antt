@@ -20,7 +20,7 @@ abbrev pub DriftsButSnapshot : Pair → Pair → Type 0
 DriftsButSnapshot old new = Drift old (record new { snapshot = old.snapshot })
 
 -- a pair after a finished test: it drifted, and has a snapshot of this run, of its source's line, with at least the writes that the source had, and no more than it has
-pub record IsTestedPair (run : ℕ) (old new : Pair) : Type 0 where
+pub record HasTestSnapshot (run : ℕ) (old new : Pair) : Type 0 where
   pub rest : DriftsButSnapshot old new
   pub content : Content
   pub snapshot : new.snapshot ≡ Some (record { run = run; content = content })

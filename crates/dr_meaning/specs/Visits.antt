@@ -1,7 +1,7 @@
 -- A run's records as visits of its stages. A run's log has the newest record first, and so have the visits.
 use Rattle.std.specs.Prelude.{ℕ, ◌==◌, Bool, true, false, List, [], ◌∷◌, Option, Some, None, find, if◌then◌else◌}
 use Rattle.dr_meaning.specs.Types.{Record}
-use Rattle.dr_meaning.specs.Stages.{has}
+use Rattle.dr_base.specs.Lists.{has}
 
 -- a Begin and what followed it: whether a Done did, and the machines that its Skips and Asides name
 pub record Visit : Type 0 where

@@ -15,7 +15,7 @@ use Rattle.dr_meaning.specs.Expected.{After, LeavesFrame}
 use Rattle.dr_meaning.specs.Lawful.{IsPairRow, SeenFor, StartsFrom, takes_over}
 use Rattle.dr_meaning.specs.InOrder.{is_start_up}
 use Rattle.dr_model.proofs.CallSteps.{MayWork, AtCall}
-use Rattle.dr_meaning.specs.Fits.{row_of, is_recovery, splits, FitsNumbers, FitsPair}
+use Rattle.dr_meaning.specs.Fits.{pair_row, is_recovery, splits, FitsNumbers, FitsPair}
 use Rattle.dr_meaning.specs.Phases.{IsAtRest, AtRest, IsRecovered}
 use Rattle.dr_meaning.proofs.Lists.{Each, each-map, each-append, each-find}
 use Rattle.dr_model.proofs.StageLaws.{IsCallout, IsWave, each-start_up, each-recovery, wind_down-kind, stage_from-each}
@@ -234,13 +234,13 @@ module _ (setting : Setting) (runs : List Run) (well : IsWellKept setting runs) 
       let chain : IsChain setting.estate g (r ∷ rest) = rw e at (well.groups g).chain in
       rw (splits-filter g runs, e) (split_before setting.estate g r rest o chain)
 
-  unseen : op r ≡ Op.Reprotect → IfSome (row_of k r.start) (λ row. row.seen ≡ false)
-  unseen o = go (row_of k r.start) refl
+  unseen : op r ≡ Op.Reprotect → IfSome (pair_row k r.start) (λ row. row.seen ≡ false)
+  unseen o = go (pair_row k r.start) refl
     where
       rows : Each (IsPairRow r.start) r.start.pairs
       rows = (each-find (HasPlan setting) (holds g) runs r well.plans last).reads
 
-      go : (x : Option StartPair) → row_of k r.start ≡ x → IfSome x (λ row. row.seen ≡ false)
+      go : (x : Option StartPair) → pair_row k r.start ≡ x → IfSome x (λ row. row.seen ≡ false)
       go None found = tt
       go (Some row) found =
           let its : IsPairRow r.start row = row_has (IsPairRow r.start) (λ x. x.pair == k) r.start.pairs row rows found in

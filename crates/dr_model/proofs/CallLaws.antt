@@ -6,8 +6,8 @@ use Rattle.dr_meaning.specs.declared.stage.StageKind.{StageKind}
 use Rattle.dr_base.specs.Sides.{other}
 use Rattle.dr_outside.specs.BySide.{at, put}
 use Rattle.dr_model.proofs.CallSteps.{MayWork, worked, AtCall}
-use Rattle.dr_meaning.specs.Runs.{migration, Run, Taken, number, op, root, last_of_group}
-use Rattle.dr_meaning.specs.Fits.{row_of, held, held_by, ReadsAtMost, ReadsAtMostIn, root_start, start_or, is_recovery, is_done_whole, IsReplicating, IsReplicatedTest, HoldsAll, IsSplitBy, IsSplitIn, FitsWrites, FitsNumbers, splits}
+use Rattle.dr_meaning.specs.Runs.{migration, Run, TakenOver, number, op, root, last_of_group}
+use Rattle.dr_meaning.specs.Fits.{pair_row, held, held_by, ReadsAtMost, ReadsAtMostIn, root_start, start_or, is_recovery, is_done_whole, IsReplicating, IsReplicatedTest, HoldsAll, IsSplitBy, IsSplitIn, FitsWrites, FitsNumbers, splits}
 use Rattle.dr_model.proofs.FitsDrift.{if_some, drift_numbers}
 
 -- Sides
@@ -83,13 +83,13 @@ module _ (run : Run) (k : ℕ) (m : Pair) where
 
     pub sync_writes : FitsWrites k m run → FitsWrites k synced run
     sync_writes w = record {
-      since_start = if_some _ _ (sync_reads run.old) (row_of k run.start) w.since_start;
-      since_migration = if_some _ _ (λ t. if_some _ _ (sync_reads run.old) (row_of k t.start)) (migration run) w.since_migration;
-      tested = λ e done. if_some _ _ (sync_test (number run) run.old) (row_of k run.start) (w.tested e done);
-      replicated = λ e done. if_some _ _ (λ row le seen. omega (arith, le seen, sync_held run.old)) (row_of k run.start) (w.replicated e done);
+      since_start = if_some _ _ (sync_reads run.old) (pair_row k run.start) w.since_start;
+      since_migration = if_some _ _ (λ t. if_some _ _ (sync_reads run.old) (pair_row k t.start)) (migration run) w.since_migration;
+      tested = λ e done. if_some _ _ (sync_test (number run) run.old) (pair_row k run.start) (w.tested e done);
+      replicated = λ e done. if_some _ _ (λ row le seen. omega (arith, le seen, sync_held run.old)) (pair_row k run.start) (w.replicated e done);
       kept_all = λ e done. sync_holds run.old (w.kept_all e done);
       kept_all_before = if_some _ _ (λ t a done. sync_holds run.old (a done)) (migration run) w.kept_all_before;
-      reversed = λ e done. if_some _ _ (λ row le. omega (arith, le, sync_rises run.old)) (row_of k run.start) (w.reversed e done);
+      reversed = λ e done. if_some _ _ (λ row le. omega (arith, le, sync_rises run.old)) (pair_row k run.start) (w.reversed e done);
     }
 
     sync_replicating : IsReplicating synced
@@ -104,9 +104,9 @@ module _ (run : Run) (k : ℕ) (m : Pair) where
 
   pub prepare_writes : FitsWrites k m run → FitsWrites k (worked run StageKind.Prepare m) run
   prepare_writes w = record {
-    since_start = if_some _ _ (λ row r. record { new_side = r.new_side; old_side = r.old_side }) (row_of k run.start) w.since_start;
-    since_migration = if_some _ _ (λ t. if_some _ _ (λ row r. record { new_side = r.new_side; old_side = r.old_side }) (row_of k t.start)) (migration run) w.since_migration;
-    tested = λ e done. if_some _ _ (λ row t. record { replicated = t.replicated; snapshot = t.snapshot }) (row_of k run.start) (w.tested e done);
+    since_start = if_some _ _ (λ row r. record { new_side = r.new_side; old_side = r.old_side }) (pair_row k run.start) w.since_start;
+    since_migration = if_some _ _ (λ t. if_some _ _ (λ row r. record { new_side = r.new_side; old_side = r.old_side }) (pair_row k t.start)) (migration run) w.since_migration;
+    tested = λ e done. if_some _ _ (λ row t. record { replicated = t.replicated; snapshot = t.snapshot }) (pair_row k run.start) (w.tested e done);
     replicated = w.replicated;
     kept_all = λ e done. prepare_holds run.old (w.kept_all e done);
     kept_all_before = if_some _ _ (λ t a done. prepare_holds run.old (a done)) (migration run) w.kept_all_before;
@@ -116,9 +116,9 @@ module _ (run : Run) (k : ℕ) (m : Pair) where
   -- TestStop
   pub test_stop_writes : FitsWrites k m run → FitsWrites k (worked run StageKind.TestStop m) run
   test_stop_writes w = record {
-    since_start = if_some _ _ (λ row r. record { new_side = r.new_side; old_side = r.old_side }) (row_of k run.start) w.since_start;
-    since_migration = if_some _ _ (λ t. if_some _ _ (λ row r. record { new_side = r.new_side; old_side = r.old_side }) (row_of k t.start)) (migration run) w.since_migration;
-    tested = λ e done. if_some _ _ (λ row t. record { replicated = t.replicated; snapshot = tt }) (row_of k run.start) (w.tested e done);
+    since_start = if_some _ _ (λ row r. record { new_side = r.new_side; old_side = r.old_side }) (pair_row k run.start) w.since_start;
+    since_migration = if_some _ _ (λ t. if_some _ _ (λ row r. record { new_side = r.new_side; old_side = r.old_side }) (pair_row k t.start)) (migration run) w.since_migration;
+    tested = λ e done. if_some _ _ (λ row t. record { replicated = t.replicated; snapshot = tt }) (pair_row k run.start) (w.tested e done);
     replicated = w.replicated;
     kept_all = λ e done. let a = w.kept_all e done in record { source = a.source; frozen = a.frozen; equal = a.equal };
     kept_all_before = if_some _ _ (λ t a done. record { source = (a done).source; frozen = (a done).frozen; equal = (a done).equal }) (migration run) w.kept_all_before;
@@ -128,9 +128,9 @@ module _ (run : Run) (k : ℕ) (m : Pair) where
   -- TestStart: the snapshot is of the target, which has replicated
   pub test_start_writes : m.link ≡ Link.Live → m.source ≡ run.old → IsReplicating m → FitsWrites k m run → FitsWrites k (worked run StageKind.TestStart m) run
   test_start_writes live source h w = record {
-    since_start = if_some _ _ (λ row r. record { new_side = r.new_side; old_side = r.old_side }) (row_of k run.start) w.since_start;
-    since_migration = if_some _ _ (λ t. if_some _ _ (λ row r. record { new_side = r.new_side; old_side = r.old_side }) (row_of k t.start)) (migration run) w.since_migration;
-    tested = λ e done. if_some _ _ (λ row t. record { replicated = t.replicated; snapshot = λ own. (h.line, at_target row t.replicated) }) (row_of k run.start) (w.tested e done);
+    since_start = if_some _ _ (λ row r. record { new_side = r.new_side; old_side = r.old_side }) (pair_row k run.start) w.since_start;
+    since_migration = if_some _ _ (λ t. if_some _ _ (λ row r. record { new_side = r.new_side; old_side = r.old_side }) (pair_row k t.start)) (migration run) w.since_migration;
+    tested = λ e done. if_some _ _ (λ row t. record { replicated = t.replicated; snapshot = λ own. (h.line, at_target row t.replicated) }) (pair_row k run.start) (w.tested e done);
     replicated = w.replicated;
     kept_all = λ e done. let a = w.kept_all e done in record { source = a.source; frozen = a.frozen; equal = a.equal };
     kept_all_before = if_some _ _ (λ t a done. record { source = (a done).source; frozen = (a done).frozen; equal = (a done).equal }) (migration run) w.kept_all_before;
@@ -187,10 +187,10 @@ module _ (run : Run) (k : ℕ) (m : Pair) where
 
     pub split_writes : FitsWrites k m run → FitsWrites k (worked run StageKind.Split m) run
     split_writes w = record {
-      since_start = if_some _ _ split_reads (row_of k run.start) w.since_start;
-      since_migration = if_some _ _ (λ t. if_some _ _ split_reads (row_of k t.start)) (migration run) w.since_migration;
+      since_start = if_some _ _ split_reads (pair_row k run.start) w.since_start;
+      since_migration = if_some _ _ (λ t. if_some _ _ split_reads (pair_row k t.start)) (migration run) w.since_migration;
       tested = λ e done. absurd (not_testing e);
-      replicated = λ e done. if_some _ _ (λ row le seen. omega (arith, le seen, split_held)) (row_of k run.start) (w.replicated e done);
+      replicated = λ e done. if_some _ _ (λ row le seen. omega (arith, le seen, split_held)) (pair_row k run.start) (w.replicated e done);
       kept_all = λ e done. split_holds (w.kept_all e done);
       kept_all_before = if_some _ _ (λ t a done. split_holds (a done)) (migration run) w.kept_all_before;
       reversed = λ e done. absurd (not_reprotect e);
@@ -206,12 +206,12 @@ module _ (run : Run) (k : ℕ) (m : Pair) where
           at_least = go (migration run) w.since_migration;
         }
       where
-        low : (start : StartRow) → ReadsAtMostIn k m run.old start → IfSome (row_of k start) (λ row. row.new_writes ≤ (at (other m.source) split_off.content).base)
+        low : (start : StartRow) → ReadsAtMostIn k m run.old start → IfSome (pair_row k start) (λ row. row.new_writes ≤ (at (other m.source) split_off.content).base)
         low start r =
             if_some {X = StartPair} (ReadsAtMost run.old m) (λ row. row.new_writes ≤ (at (other m.source) split_off.content).base)
-            (λ row x. omega (arith, (subst (λ o. ReadsAtMost o m row) (sym source) x).new_side, ap (λ c. c.base) split_new)) (row_of k start) r
+            (λ row x. omega (arith, (subst (λ o. ReadsAtMost o m row) (sym source) x).new_side, ap (λ c. c.base) split_new)) (pair_row k start) r
 
-        go : (o : Option Taken) → IfSome o (λ t. ReadsAtMostIn k m run.old t.start) → IfSome (row_of k (start_or run.start o)) (λ row. row.new_writes ≤ (at (other m.source) split_off.content).base)
+        go : (o : Option TakenOver) → IfSome o (λ t. ReadsAtMostIn k m run.old t.start) → IfSome (pair_row k (start_or run.start o)) (λ row. row.new_writes ≤ (at (other m.source) split_off.content).base)
         go None h = low run.start w.since_start
         go (Some t) h = low t.start h
 
@@ -249,15 +249,15 @@ module _ (run : Run) (k : ℕ) (m : Pair) where
       old_side = λ seen. absurd (let wrong : true ≡ false = sym seen ∙ unseen in cc);
     }
 
-    none_before : (P : Taken → Type 0) → IfSome (migration run) P
+    none_before : (P : TakenOver → Type 0) → IfSome (migration run) P
     none_before P = rw is tt
 
     not_recovery : is_recovery (op run) ≡ true → ⊥
     not_recovery e = let wrong : false ≡ true = rw is at e in cc
 
-    pub turned_writes : IfSome (row_of k run.start) (λ row. row.seen ≡ false) → is_done_whole run StageKind.FinalSync ≡ false → FitsWrites k m run → FitsWrites k (worked run StageKind.Reverse m) run
+    pub turned_writes : IfSome (pair_row k run.start) (λ row. row.seen ≡ false) → is_done_whole run StageKind.FinalSync ≡ false → FitsWrites k m run → FitsWrites k (worked run StageKind.Reverse m) run
     turned_writes unseen not_final w = record {
-      since_start = both (row_of k run.start) unseen w.since_start;
+      since_start = both (pair_row k run.start) unseen w.since_start;
       since_migration = none_before _;
       tested = λ e done. absurd (let wrong : Op.Testing ≡ Op.Reprotect = sym e ∙ is in cc);
       replicated = λ e done. absurd (not_recovery e);
@@ -282,7 +282,7 @@ Fitting StageKind.Prepare run runs g k m = Unit {0}
 Fitting StageKind.Split run runs g k m = (m.source ≡ run.old) × (is_recovery (op run) ≡ true) × (find (splits g) runs ≡ Some run)
 Fitting StageKind.Reverse run runs g k m =
     (m.source ≡ run.old) × (op run ≡ Op.Reprotect) × IsSomeAnd (find (splits g) runs) (λ q. q.old ≡ run.old)
-    × IfSome (row_of k run.start) (λ row. row.seen ≡ false) × (is_done_whole run StageKind.FinalSync ≡ false)
+    × IfSome (pair_row k run.start) (λ row. row.seen ≡ false) × (is_done_whole run StageKind.FinalSync ≡ false)
 Fitting _ run runs g k m = Unit {0}
 
 pub if_some_and : {X : Type 0} (P Q R : X → Type 0) → ((x : X) → P x → Q x → R x) → (o : Option X) → IfSome o P → IfSome o Q → IfSome o R

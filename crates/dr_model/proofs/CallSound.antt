@@ -9,13 +9,14 @@ use Rattle.dr_meaning.specs.Types.{Sides, Op, Link, ArrayCall, Pair, Post, PlanM
 use Rattle.dr_meaning.specs.declared.stage.StageKind.{StageKind}
 use Rattle.dr_meaning.specs.StartUp.{is_started}
 use Rattle.dr_meaning.specs.Worlds.{World}
-use Rattle.dr_meaning.specs.Stages.{has, stage_at}
+use Rattle.dr_base.specs.Lists.{has}
+use Rattle.dr_meaning.specs.Stages.{stage_at}
 use Rattle.dr_meaning.specs.Visits.{begun}
 use Rattle.dr_meaning.specs.Runs.{Setting, Run, number, op, new, stages_of, holds, is_finished, is_open, run_at, last_of_group, runs_of}
 use Rattle.dr_meaning.specs.Outcomes.{made_frame}
 use Rattle.dr_meaning.specs.Lawful.{LawfulAfter}
 use Rattle.dr_meaning.specs.Fits.{FitsPair, FitsMachine}
-use Rattle.dr_meaning.specs.InOrder.{is_start_up, is_ready, keeps, IsPairOfMachine, IsServing, MayRun}
+use Rattle.dr_meaning.specs.InOrder.{is_start_up, is_ready, has_code, IsPairOfMachine, IsServing, MayRun}
 use Rattle.dr_meaning.specs.Calls.{call_of, CalledBy, Called, CallsPairs}
 use Rattle.dr_meaning.specs.Sound.{IsKept, IsSoundBy}
 use Rattle.dr_meaning.specs.Backing.{IsRegularPlan, HasRegularPlans, KeepsOrder}
@@ -147,8 +148,8 @@ module _ (setting : Setting) (records : List Record) (lawful : LawfulAfter setti
   keeps_order : (g : ℕ) (run : Run) → last_of_group g runs ≡ Some run → Each (λ h. last_of_group h runs ≡ Some run) run.start.groups → is_start_up (op run) ≡ true → KeepsOrder old now run
   keeps_order g run last all_last up = record {
     ready = λ m named h. ap (λ f. is_ready_of (f m)) same_posts ∙ h;
-    kept = λ m t h. ap (λ f. keeps (f m) t) same_kept ∙ h;
-    runner = λ t h. ap (λ l. keeps l t) same_runner ∙ h;
+    kept = λ m t h. ap (λ f. has_code (f m) t) same_kept ∙ h;
+    runner = λ t h. ap (λ l. has_code l t) same_runner ∙ h;
     serving = serving;
     starts = all_each (λ m. is_started (at (new run) (now.post m.machine)) ≡ true → (is_started (at (new run) (old.post m.machine)) ≡ true) ⊎ MayRun now run m) (λ m running. inl (ap (λ f. is_started (at (new run) (f m.machine))) (sym same_posts) ∙ running)) run.plan.machines;
   }

@@ -10,9 +10,9 @@ use Rattle.dr_meaning.specs.declared.stage.Stage.{Stage}
 use Rattle.dr_meaning.specs.Worlds.{World}
 use Rattle.dr_meaning.specs.Stages.{stage_at}
 use Rattle.dr_meaning.specs.Visits.{Visit, visits, mark_done, excuse, open_stage, all}
-use Rattle.dr_meaning.specs.Runs.{Setting, Run, Taken, root, migration, stages_of, run_at, run_named, add_record}
+use Rattle.dr_meaning.specs.Runs.{Setting, Run, TakenOver, root, migration, stages_of, run_at, run_named, add_record}
 use Rattle.dr_meaning.specs.Lawful.{is_code, is_coded, is_answer, was_answered, token_of, HasCodes, MayCome, LawfulAfter}
-use Rattle.dr_meaning.specs.InOrder.{keeps}
+use Rattle.dr_meaning.specs.InOrder.{has_code}
 use Rattle.dr_meaning.specs.Sound.{IsKept}
 use Rattle.dr_meaning.proofs.Lists.{Each, each-map}
 use Rattle.dr_model.proofs.ChainLaws.{and_left, and_right}
@@ -26,14 +26,14 @@ abbrev pub IsCodedAt : ℕ → List Stage → List Record → Visit → Type 0
 IsCodedAt root stages log v = v.done ≡ true → (stage_at stages v.stage).kind ≡ StageKind.Command → list_any (is_code (token_of root (stage_at stages v.stage).step) all) log ≡ true
 
 -- the answer of a visit's step
-abbrev pub IsAnsweredAt : Option Taken → List Stage → List Record → Visit → Type 0
+abbrev pub IsAnsweredAt : Option TakenOver → List Stage → List Record → Visit → Type 0
 IsAnsweredAt took stages log v = (stage_at stages v.stage).kind ≡ StageKind.Prompt → list_any (is_answer (stage_at stages v.stage).step) log || was_answered (stage_at stages v.stage).step took ≡ true
 
 pub record TakesSteps (r : Run) : Type 0 where
   pub coded : Each (IsCodedAt (root r) (stages_of r) r.log) (visits r.log)
   pub answered : Each (IsAnsweredAt (migration r) (stages_of r) r.log) (visits r.log)
 
-module _ (root : ℕ) (took : Option Taken) (stages : List Stage) (log : List Record) (item : Record) where
+module _ (root : ℕ) (took : Option TakenOver) (stages : List Stage) (log : List Record) (item : Record) where
   coded_more : (vs : List Visit) → Each (IsCodedAt root stages log) vs → Each (IsCodedAt root stages (item ∷ log)) vs
   coded_more vs h = each-map (IsCodedAt root stages log) (IsCodedAt root stages (item ∷ log)) (λ v c d k. or_right (is_code (token_of root (stage_at stages v.stage).step) all item) _ (c d k)) vs h
 
@@ -55,11 +55,11 @@ coded_excuse : (root m : ℕ) (stages : List Stage) (log : List Record) (vs : Li
 coded_excuse root m stages log [] h = h
 coded_excuse root m stages log (v ∷ vs) h = h
 
-answered_mark : (took : Option Taken) (stages : List Stage) (log : List Record) (vs : List Visit) → Each (IsAnsweredAt took stages log) vs → Each (IsAnsweredAt took stages log) (mark_done vs)
+answered_mark : (took : Option TakenOver) (stages : List Stage) (log : List Record) (vs : List Visit) → Each (IsAnsweredAt took stages log) vs → Each (IsAnsweredAt took stages log) (mark_done vs)
 answered_mark took stages log [] h = h
 answered_mark took stages log (v ∷ vs) h = h
 
-answered_excuse : (took : Option Taken) (m : ℕ) (stages : List Stage) (log : List Record) (vs : List Visit) → Each (IsAnsweredAt took stages log) vs → Each (IsAnsweredAt took stages log) (excuse m vs)
+answered_excuse : (took : Option TakenOver) (m : ℕ) (stages : List Stage) (log : List Record) (vs : List Visit) → Each (IsAnsweredAt took stages log) vs → Each (IsAnsweredAt took stages log) (excuse m vs)
 answered_excuse took m stages log [] h = h
 answered_excuse took m stages log (v ∷ vs) h = h
 
@@ -107,7 +107,7 @@ steps-lawful setting records lawful =
 
 -- The runner keeps each code that was recorded
 
-one_kept : (w : World) (t : ℕ) (item : Record) → IsKept w item → is_code t all item ≡ true → keeps w.runner t ≡ true
+one_kept : (w : World) (t : ℕ) (item : Record) → IsKept w item → is_code t all item ≡ true → has_code w.runner t ≡ true
 one_kept w t (Record.Code run token m code) kept e =
     let is_token : token ≡ t = eqb-true token t (and_left _ (m == all) e) in
     let of_runner : m == all ≡ true = and_right (token == t) _ e in
@@ -115,10 +115,10 @@ one_kept w t (Record.Code run token m code) kept e =
     ap (λ n. is_some (code_of w.runner n)) (sym is_token) ∙ ap is_some held
 one_kept w t _ kept e = absurd cc
 
-pub coded_kept : (w : World) (t : ℕ) (log : List Record) → Each (IsKept w) log → list_any (is_code t all) log ≡ true → keeps w.runner t ≡ true
+pub coded_kept : (w : World) (t : ℕ) (log : List Record) → Each (IsKept w) log → list_any (is_code t all) log ≡ true → has_code w.runner t ≡ true
 coded_kept w t [] kept e = absurd cc
 coded_kept w t (item ∷ log) kept e = go (is_code t all item) refl (coded_kept w t log kept.1)
   where
-    go : (b : Bool) → is_code t all item ≡ b → (list_any (is_code t all) log ≡ true → keeps w.runner t ≡ true) → keeps w.runner t ≡ true
+    go : (b : Bool) → is_code t all item ≡ b → (list_any (is_code t all) log ≡ true → has_code w.runner t ≡ true) → has_code w.runner t ≡ true
     go true own rest = one_kept w t item kept.0 own
     go false other rest = rest (rw other at e)

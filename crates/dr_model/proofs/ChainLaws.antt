@@ -4,7 +4,7 @@ use Rattle.std.proofs.Common.{refl, sym, ap, ◌∙◌, subst, inl, inr, arith}
 use Rattle.std.proofs.lemmas.Bool.{eq-eqb, eqb-true, ne_eqb, cases_eq}
 use Rattle.dr_meaning.proofs.Elements.{pick}
 use Rattle.dr_meaning.specs.Types.{Op, Estate, Plan, StartRow, Record}
-use Rattle.dr_meaning.specs.Stages.{has}
+use Rattle.dr_base.specs.Lists.{has}
 use Rattle.dr_meaning.specs.Runs.{as_taken, Setting, Run, number, op, holds, is_finished, is_open, finish, group_state, last_of_group, run_at, run_named, take_in, take_over, protected_side, begin_run, add_record, runs_of}
 use Rattle.dr_meaning.specs.Lawful.{IsPairRow, is_over_test, StartsFrom, takes_over, MayStart, MayCome, LawfulAfter, is_taken_over, number_or_0}
 use Rattle.dr_meaning.proofs.Lists.{Each, each-map, each-find, each-of-map, find-passes, map-same, find-filter}

@@ -6,7 +6,7 @@ use Rattle.std.proofs.lemmas.Bool.{eq-eqb, eqb-true}
 use Rattle.std.proofs.lemmas.List.Elements.{All-contains, filter_passes}
 use Rattle.std.proofs.lemmas.List.Folds.{Any-from_list_any, list_any_at}
 use Rattle.std.proofs.lemmas.Option.{slice_get_within, slice_get-get_or}
-use Rattle.dr_inventory.specs.Sound.{IsSound}
+use Rattle.dr_inventory.specs.Sound.{IsSoundEstate}
 use Rattle.dr_inventory.proofs.SoundLaws.{sound}
 use Rattle.dr_groups.specs.Groups.{IsPairOf, IsMachineOf, ListsByGroup}
 use Rattle.dr_groups.proofs.RowLaws.{found_contained, device_below}
@@ -77,7 +77,7 @@ module _ (bytes : List ℕ) (setting : Setting) (d : DeclaresSetting bytes setti
 
   all_pairs : (g p : ℕ) → Contains plan.groups g → IsPairOf setting.estate g p → Contains plan.pairs p
   all_pairs g p listed of_group =
-      let is_sound : IsSound setting.estate = sound d.declares.text.table setting.estate d.declares.text.value in
+      let is_sound : IsSoundEstate setting.estate = sound d.declares.text.table setting.estate d.declares.text.value in
       let planned : Contains (planned_pairs setting.estate d.members is_plan.row) p = held_among_all setting.estate (IsPairOf setting.estate) d.members.pairs d.declares.members.pairs numbers (length setting.estate.devices) g p (group_below g listed) (its_number g listed) of_group (device_below setting.estate of_group.datastore p is_sound of_group.named) in
       let P : Plan → Type 0 = λ q. Contains q.pairs p in
       subst P (sym is_plan.value) planned

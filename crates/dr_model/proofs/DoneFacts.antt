@@ -16,7 +16,7 @@ use Rattle.dr_meaning.specs.Meaning.{same_kind, is_of_kind}
 use Rattle.dr_meaning.specs.Expected.{After, LeavesFrame}
 use Rattle.dr_meaning.specs.Lawful.{IsPairRow, SeenFor, StartsFrom, takes_over}
 use Rattle.dr_model.proofs.CallSteps.{worked}
-use Rattle.dr_meaning.specs.Fits.{row_of, is_visit_whole, is_done_whole, FitsWrites, FitsPair}
+use Rattle.dr_meaning.specs.Fits.{pair_row, is_visit_whole, is_done_whole, FitsWrites, FitsPair}
 use Rattle.dr_meaning.specs.Phases.{IsRecovered}
 use Rattle.dr_meaning.proofs.Lists.{Each, all_each, each-find, find-passes}
 use Rattle.dr_model.proofs.ThroughLaws.{Makes, through_from, some_of-find}
@@ -24,7 +24,7 @@ use Rattle.dr_model.proofs.WholeMigrate.{at-put, at-put_other}
 use Rattle.dr_model.proofs.WholeSkips.{frame_holds, complete_makes}
 use Rattle.dr_model.proofs.ExpectedLaws.{filter-find}
 use Rattle.dr_model.proofs.PhaseLaws.{incomplete_step, IsChain, StartsAt, Opens, chain_frames}
-use Rattle.dr_model.proofs.NumberLaws.{kind-same, Shows}
+use Rattle.dr_model.proofs.NumberLaws.{kind-same, ShowsDone}
 use Rattle.dr_model.proofs.ShowLaws.{IsReplication, IsCalledFor, shows-replicated, drift_shows}
 use Rattle.dr_model.proofs.SequenceLaws.{IsInSequence}
 use Rattle.dr_model.proofs.ChainLaws.{HasPlan, IsWellKept}
@@ -126,10 +126,10 @@ snapshot_none k m e = go m.snapshot e
 
 -- A pair that fits, when its replication is called in the begun stage
 module _ (setting : Setting) (runs : List Run) (well : IsWellKept setting runs) (ordered : Each IsInSequence runs) (g : ℕ) (r : Run) (last : last_of_group g runs ≡ Some r) (going : is_finished r ≡ false) (v : Visit) (earlier : List Visit) (shape : visits r.log ≡ v ∷ earlier) (k : ℕ) (m : Pair) (fits : FitsPair setting.estate runs g k m) (live : m.link ≡ Link.Live) (is : IsReplication (stage_of r v).kind) where
-  rows : (o : Op) → op r ≡ o → IfSome (row_of k r.start) (λ row. SeenFor o r.start.forced row.seen)
-  rows o e = go (row_of k r.start) refl
+  rows : (o : Op) → op r ≡ o → IfSome (pair_row k r.start) (λ row. SeenFor o r.start.forced row.seen)
+  rows o e = go (pair_row k r.start) refl
     where
-      go : (x : Option StartPair) → row_of k r.start ≡ x → IfSome x (λ row. SeenFor o r.start.forced row.seen)
+      go : (x : Option StartPair) → pair_row k r.start ≡ x → IfSome x (λ row. SeenFor o r.start.forced row.seen)
       go None found = tt
       go (Some row) found =
           let its : IsPairRow r.start row = row_has (IsPairRow r.start) (λ x. x.pair == k) r.start.pairs row (each-find (HasPlan setting) (holds g) runs r well.plans last).reads found in
@@ -153,13 +153,13 @@ module _ (setting : Setting) (runs : List Run) (well : IsWellKept setting runs) 
       }
 
   -- So where the call is Ok, the pair shows what the Done asks, and goes on to show it while it drifts.
-  pub shown_after : (q : Pair) → Drift (worked r (stage_of r v).kind m) q → Shows k q r (stage_of r v).kind
+  pub shown_after : (q : Pair) → Drift (worked r (stage_of r v).kind m) q → ShowsDone k q r (stage_of r v).kind
   shown_after q drift = go (stage_of r v).kind is refl drift
     where
       writes : FitsWrites k m r
       writes = let all_writes = fits.numbers.writes in rw last at all_writes
 
-      go : (kind : StageKind) → IsReplication kind → (stage_of r v).kind ≡ kind → Drift (worked r kind m) q → Shows k q r kind
+      go : (kind : StageKind) → IsReplication kind → (stage_of r v).kind ≡ kind → Drift (worked r kind m) q → ShowsDone k q r kind
       go StageKind.Sync is e d = drift_shows k (worked r StageKind.Sync m) q r StageKind.Sync d (shows-replicated k r StageKind.Sync m live (fits.numbers.live live) writes called_for (inl refl))
       go StageKind.FinalSync is e d = drift_shows k (worked r StageKind.FinalSync m) q r StageKind.FinalSync d (shows-replicated k r StageKind.FinalSync m live (fits.numbers.live live) writes called_for (inr refl))
       go _ (inl f) e d = absurd cc

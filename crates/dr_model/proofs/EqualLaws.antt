@@ -9,7 +9,8 @@ use Rattle.dr_meaning.specs.declared.stage.Stage.{Stage}
 use Rattle.dr_outside.specs.Pairs.{Frame}
 use Rattle.dr_outside.specs.BySide.{at}
 use Rattle.dr_base.specs.Sides.{same_side}
-use Rattle.dr_meaning.specs.Stages.{no_stage, stage_from, wind_down, has, stages, recovery, array_stage, start_up, stage_at}
+use Rattle.dr_base.specs.Lists.{has}
+use Rattle.dr_meaning.specs.Stages.{no_stage, stage_from, wind_down, stages, recovery, array_stage, start_up, stage_at}
 use Rattle.dr_meaning.specs.Visits.{Visit, visits, all, is_excused}
 use Rattle.dr_meaning.specs.Runs.{Run, op, stages_of}
 use Rattle.dr_meaning.specs.Outcomes.{made_frame, stopped, split_frame}

@@ -6,7 +6,7 @@ use Rattle.dr_meaning.specs.Types.{Op, Estate, Record}
 use Rattle.dr_outside.specs.Pairs.{Frame}
 use Rattle.dr_meaning.specs.Runs.{Run, number, op, holds, is_finished, last_of_group, run_named, take_in}
 use Rattle.dr_meaning.specs.Expected.{After, LeavesFrame, ExpectedFrame}
-use Rattle.dr_meaning.specs.Stages.{has}
+use Rattle.dr_base.specs.Lists.{has}
 use Rattle.dr_meaning.specs.Visits.{Visit, visits, all}
 use Rattle.dr_meaning.specs.Outcomes.{made_frame, FrameOutcome}
 use Rattle.dr_meaning.specs.Reach.{ReachFrame}

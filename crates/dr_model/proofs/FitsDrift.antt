@@ -4,9 +4,9 @@ use Rattle.std.proofs.Common.{refl, sym, ap, ◌∙◌, inl, inr, arith}
 use Rattle.dr_meaning.specs.Types.{Side, Link, Content, Pair, Estate, StartPair, StartRow}
 use Rattle.dr_base.specs.Sides.{other, same_side}
 use Rattle.dr_outside.specs.BySide.{at}
-use Rattle.dr_outside.specs.Pairs.{frame_of, is_live, is_target, Grows, Follows, Drift}
+use Rattle.dr_outside.specs.Pairs.{frame_of, is_live, is_target, Grows, FollowsSource, Drift}
 use Rattle.dr_meaning.specs.Runs.{migration, Run, number, new, root}
-use Rattle.dr_meaning.specs.Fits.{held, ReadsAtMost, IsReplicating, IsSplitBy, IsReplicatedTest, HoldsAll, FitsWrites, FitsNumbers, FitsPair, row_of, root_start}
+use Rattle.dr_meaning.specs.Fits.{held, ReadsAtMost, IsReplicating, IsSplitBy, IsReplicatedTest, HoldsAll, FitsWrites, FitsNumbers, FitsPair, pair_row, root_start}
 use Rattle.dr_outside.proofs.Drifts.{grows_refl, source_grows, source_is_no_target}
 
 same_link : (p q : Pair) → Drift p q → q.link ≡ p.link
@@ -16,14 +16,14 @@ same_link p q d = ap (λ f. f.link) d.frame
 pub writes_rise : (p q : Pair) → Drift p q → (side : Side) → (at side p.content).writes ≤ (at side q.content).writes
 writes_rise p q d side = go (at side p.writable) (is_target side (frame_of p)) refl refl
   where
-    followed : (at side q.content ≡ at side p.content) ⊎ Follows (at side p.content) (at p.source q.content) (at side q.content) → (at side p.content).writes ≤ (at side q.content).writes
+    followed : (at side q.content ≡ at side p.content) ⊎ FollowsSource (at side p.content) (at p.source q.content) (at side q.content) → (at side p.content).writes ≤ (at side q.content).writes
     followed (inl e) = omega (arith, ap (λ c. c.writes) e)
     followed (inr f) = f.at_least
 
     go : (w t : Bool) → at side p.writable ≡ w → is_target side (frame_of p) ≡ t → (at side p.content).writes ≤ (at side q.content).writes
     go true t e f = (d.written side e).writes
     go false true e f = followed (d.replicated side f)
-    go false false e f = omega (arith, ap (λ c. c.writes) (d.frozen side e f))
+    go false false e f = omega (arith, ap (λ c. c.writes) (d.read_only side e f))
 
 -- at a Split pair each side is written or stays
 pub split_grows : (p q : Pair) → Drift p q → p.link ≡ Link.Split → (side : Side) → Grows (at side p.content) (at side q.content)
@@ -31,7 +31,7 @@ split_grows p q d split side = go (at side p.writable) refl
   where
     go : (w : Bool) → at side p.writable ≡ w → Grows (at side p.content) (at side q.content)
     go true e = d.written side e
-    go false e = grows_refl _ _ (d.frozen side e (rw split refl))
+    go false e = grows_refl _ _ (d.read_only side e (rw split refl))
 
 pub held_rises : (p q : Pair) (old : Side) → Drift p q → held old p ≤ held old q
 held_rises p q old d = go p.link refl
@@ -59,7 +59,7 @@ target_of p e = rw e (go p.source)
     go Side.B = refl
 
 -- a target that follows or stays behind its source
-stays_behind : (t0 t1 s0 s1 : Content) → Grows s0 s1 → (t1 ≡ t0) ⊎ Follows t0 s1 t1 → t0.line ≡ s0.line → t0.writes ≤ s0.writes → (t1.line ≡ s1.line) × (t1.writes ≤ s1.writes)
+stays_behind : (t0 t1 s0 s1 : Content) → Grows s0 s1 → (t1 ≡ t0) ⊎ FollowsSource t0 s1 t1 → t0.line ≡ s0.line → t0.writes ≤ s0.writes → (t1.line ≡ s1.line) × (t1.writes ≤ s1.writes)
 stays_behind t0 t1 s0 s1 g (inl e) line le = (ap (λ c. c.line) e ∙ line ∙ sym g.line, omega (arith, g.writes, ap (λ c. c.writes) e))
 stays_behind t0 t1 s0 s1 g (inr f) line le = (f.line, f.at_most)
 
@@ -82,18 +82,18 @@ module _ (p q : Pair) (d : Drift p q) where
       record {
         line = g.line ∙ h.line;
         base = omega (arith, h.base, g.base, g.writes);
-        at_least = if_some (λ row. row.new_writes ≤ (at new p.content).base) (λ row. row.new_writes ≤ (at new q.content).base) (λ row le. omega (arith, le, g.base)) (row_of number start) h.at_least;
+        at_least = if_some (λ row. row.new_writes ≤ (at new p.content).base) (λ row. row.new_writes ≤ (at new q.content).base) (λ row le. omega (arith, le, g.base)) (pair_row number start) h.at_least;
       }
 
   -- an old side that is frozen and the source, or split, keeps its content
   frozen_source : (old : Side) → at old p.writable ≡ false → p.source ≡ old → at old q.content ≡ at old p.content
-  frozen_source old frozen source = d.frozen old frozen (rw source (source_is_no_target old (is_live p.link)))
+  frozen_source old frozen source = d.read_only old frozen (rw source (source_is_no_target old (is_live p.link)))
 
   -- a target stays behind its source
   writes_behind : p.link ≡ Link.Live → (at (other p.source) p.content).writes ≤ (at p.source p.content).writes → (at (other p.source) q.content).writes ≤ (at p.source q.content).writes
   writes_behind live le = go (d.replicated (other p.source) (target_of p live))
     where
-      go : (at (other p.source) q.content ≡ at (other p.source) p.content) ⊎ Follows (at (other p.source) p.content) (at p.source q.content) (at (other p.source) q.content) → (at (other p.source) q.content).writes ≤ (at p.source q.content).writes
+      go : (at (other p.source) q.content ≡ at (other p.source) p.content) ⊎ FollowsSource (at (other p.source) p.content) (at p.source q.content) (at (other p.source) q.content) → (at (other p.source) q.content).writes ≤ (at p.source q.content).writes
       go (inl e) = omega (arith, ap (λ c. c.writes) e, le, writes_rise p q d p.source)
       go (inr f) = f.at_most
 
@@ -128,13 +128,13 @@ module _ (p q : Pair) (d : Drift p q) where
 
   drift_writes : (k : ℕ) (run : Run) → FitsWrites k p run → FitsWrites k q run
   drift_writes k run h = record {
-    since_start = if_some _ _ (λ row. reads_at_most p q run.old row d) (row_of k run.start) h.since_start;
-    since_migration = if_some _ _ (λ t. if_some _ _ (λ row. reads_at_most p q run.old row d) (row_of k t.start)) (migration run) h.since_migration;
-    tested = λ e done. if_some _ _ (λ row t. drift_test (number run) run.old row t) (row_of k run.start) (h.tested e done);
-    replicated = λ e done. if_some _ _ (λ row le seen. omega (arith, le seen, held_rises p q run.old d)) (row_of k run.start) (h.replicated e done);
+    since_start = if_some _ _ (λ row. reads_at_most p q run.old row d) (pair_row k run.start) h.since_start;
+    since_migration = if_some _ _ (λ t. if_some _ _ (λ row. reads_at_most p q run.old row d) (pair_row k t.start)) (migration run) h.since_migration;
+    tested = λ e done. if_some _ _ (λ row t. drift_test (number run) run.old row t) (pair_row k run.start) (h.tested e done);
+    replicated = λ e done. if_some _ _ (λ row le seen. omega (arith, le seen, held_rises p q run.old d)) (pair_row k run.start) (h.replicated e done);
     kept_all = λ e done. drift_holds run.old (h.kept_all e done);
     kept_all_before = if_some _ _ (λ r k done. drift_holds run.old (k done)) (migration run) h.kept_all_before;
-    reversed = λ e done. if_some _ _ (λ row le. omega (arith, le, writes_rise p q d run.old)) (row_of k run.start) (h.reversed e done);
+    reversed = λ e done. if_some _ _ (λ row le. omega (arith, le, writes_rise p q d run.old)) (pair_row k run.start) (h.reversed e done);
   }
 
   pub drift_numbers : (runs : List Run) (group k : ℕ) → FitsNumbers runs group k p → FitsNumbers runs group k q

@@ -23,7 +23,7 @@ use Rattle.dr_model.proofs.ExpectedLaws.{each-filter, filter-find}
 use Rattle.dr_model.proofs.LogLaws.{DoneBefore}
 use Rattle.dr_model.proofs.PhaseLaws.{incomplete_step, IsChain, StartsAt, Opens, chain_frames}
 use Rattle.dr_model.proofs.PostPhase.{migrate_of}
-use Rattle.dr_model.proofs.NumberLaws.{kind-same, Shows}
+use Rattle.dr_model.proofs.NumberLaws.{kind-same, ShowsDone}
 use Rattle.dr_model.proofs.ShowLaws.{IsReplication, shows-held, shows-other}
 use Rattle.dr_model.proofs.SequenceLaws.{IsInSequence, IsAhead, Visits_at}
 use Rattle.dr_model.proofs.WaveOrder.{number_with}
@@ -221,9 +221,9 @@ module _ (setting : Setting) (runs : List Run) (well : IsWellKept setting runs) 
           (rw before at writes.kept_all_before) whole
 
   -- so it shows what the Done of a replication asks for
-  pub split_shows : Shows k p r (stage_of r v).kind
+  pub split_shows : ShowsDone k p r (stage_of r v).kind
   split_shows = shows-held k r (stage_of r v).kind p (rw fails refl) held_by_migration (let w = fits.numbers.writes in rw last at w)
 
 -- Any other stage asks for nothing.
-pub other_shows : (r : Run) (v : Visit) (earlier : List Visit) → visits r.log ≡ v ∷ earlier → IsInSequence r → (IsReplication (stage_of r v).kind → ⊥) → (k : ℕ) (p : Pair) → Shows k p r (stage_of r v).kind
+pub other_shows : (r : Run) (v : Visit) (earlier : List Visit) → visits r.log ≡ v ∷ earlier → IsInSequence r → (IsReplication (stage_of r v).kind → ⊥) → (k : ℕ) (p : Pair) → ShowsDone k p r (stage_of r v).kind
 other_shows r v earlier shape sequence other k p = shows-other k r (stage_of r v).kind p other (λ e. not_reached r v earlier shape sequence StageKind.FinalSync (rw e (omega arith)) (λ f. cc))

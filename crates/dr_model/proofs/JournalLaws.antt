@@ -5,7 +5,8 @@ use Rattle.std.proofs.lemmas.Bool.{eqb-true}
 use Rattle.dr_meaning.specs.Types.{Side, Placed, Post, Record}
 use Rattle.dr_meaning.specs.declared.stage.StageKind.{StageKind}
 use Rattle.dr_outside.specs.Pairs.{Frame}
-use Rattle.dr_meaning.specs.Stages.{has, stage_at}
+use Rattle.dr_base.specs.Lists.{has}
+use Rattle.dr_meaning.specs.Stages.{stage_at}
 use Rattle.dr_meaning.specs.Visits.{Visit, visits, excuse, open_stage, all}
 use Rattle.dr_meaning.specs.Runs.{Setting, Run, number, stages_of, holds, is_finish, is_finished, is_open, last_of_group, run_at, run_named, take_in}
 use Rattle.dr_meaning.specs.Outcomes.{IsAsWanted}

@@ -4,13 +4,14 @@ use Rattle.std.proofs.Common.{refl, sym, ap, ◌∙◌, inl, inr, subst}
 use Rattle.dr_groups.specs.Groups.{IsPairOf}
 use Rattle.dr_outside.specs.BySide.{at}
 use Rattle.dr_outside.specs.declared.pair.Half.{Half}
-use Rattle.dr_outside.specs.Arrays.{is_listed, IsWrong}
+use Rattle.dr_base.specs.Lists.{has}
+use Rattle.dr_outside.specs.Arrays.{IsWrong}
 use Rattle.dr_outside.specs.Pairs.{frame_of, is_fit, Drift, Made}
 use Rattle.dr_meaning.specs.Types.{Side, Op, Link, ArrayCall, Pair, Placed, Post, Plan, PlanMachine, StartRow, Record}
 use Rattle.dr_meaning.specs.declared.stage.StageKind.{StageKind}
 use Rattle.dr_meaning.specs.StartUp.{is_started}
 use Rattle.dr_meaning.specs.Worlds.{World}
-use Rattle.dr_meaning.specs.Stages.{has, stage_at}
+use Rattle.dr_meaning.specs.Stages.{stage_at}
 use Rattle.dr_meaning.specs.Visits.{Visit, visits, open_stage, begun, all}
 use Rattle.dr_meaning.specs.Runs.{Setting, Run, number, op, new, stages_of, holds, is_finished, is_open, run_at, last_of_group, take_in, take_over, begin_run, add_record, runs_of}
 use Rattle.dr_meaning.specs.Outcomes.{made_frame}
@@ -19,7 +20,7 @@ use Rattle.dr_meaning.specs.Fits.{FitsPair}
 use Rattle.dr_meaning.specs.InOrder.{is_start_up, InOrder}
 use Rattle.dr_meaning.specs.Calls.{call_of, Called, IsLeftOut, IsForCall, MadeBy, IsWorked}
 use Rattle.dr_meaning.specs.Sound.{IsKept, IsSoundBy}
-use Rattle.dr_meaning.specs.Backing.{IsRegularPlan, HasRegularPlans, IsEntry, IsPlain, Shows, BacksPair, BacksDone, BacksStart}
+use Rattle.dr_meaning.specs.Backing.{IsRegularPlan, HasRegularPlans, IsEntry, IsPlain, ShowsDone, BacksPair, BacksDone, BacksStart}
 use Rattle.dr_meaning.proofs.Lists.{Each, each-find}
 use Rattle.dr_model.proofs.ChainLaws.{IsWellKept, HasPlan, kept-lawful, fresh_run}
 use Rattle.dr_model.proofs.PostLaws.{empty_kept}
@@ -127,10 +128,10 @@ module _ (setting : Setting) (records : List Record) (lawful : LawfulAfter setti
           at_moment : FitsPair setting.estate runs g k made.moment
           at_moment = drift_fits p made.moment made.before setting.estate runs g k fits
 
-          replicated : IsReplication (stage_of r v).kind → made.moment.link ≡ Link.Live → Shows k (w.pair k) r (stage_of r v).kind
+          replicated : IsReplication (stage_of r v).kind → made.moment.link ≡ Link.Live → ShowsDone k (w.pair k) r (stage_of r v).kind
           replicated is live = shown_after setting runs well ordered g r last going v earlier shape k made.moment at_moment live is (w.pair k) step.drifts_on
 
-          shows : (kind : StageKind) → (stage_of r v).kind ≡ kind → Shows k (w.pair k) r (stage_of r v).kind
+          shows : (kind : StageKind) → (stage_of r v).kind ≡ kind → ShowsDone k (w.pair k) r (stage_of r v).kind
           shows StageKind.Sync e = replicated (inl e) (subst (λ (s : StageKind). MayWork s made.moment) e step.may)
           shows StageKind.FinalSync e = replicated (inr e) (subst (λ (s : StageKind). MayWork s made.moment) e step.may)
           shows _ e = other_shows r v earlier shape sequence (λ is. elim is [ inl a ↦ (let wrong = sym e ∙ a in cc) | inr a ↦ (let wrong = sym e ∙ a in cc) ]) k (w.pair k)
@@ -205,7 +206,7 @@ worked_back setting records r v earlier old now lawful going shape undone s coun
 
 -- from a sound start no call of the begun stage is refused
 pub not_wrong : (setting : Setting) (records : List Record) (r : Run) (stage : ℕ) (call : ArrayCall) (list : List ℕ) (w : World) (now : ℕ → Pair) (k : ℕ) (half : Half) → LawfulAfter setting [] records → run_at (number r) (runs_of setting records) ≡ Some r → is_open r ≡ true → begun r.log ≡ Some stage → call_of r (stage_at (stages_of r) stage).kind ≡ Some call
-    → ((p : ℕ) → is_listed list p ≡ true → IsForCall setting.estate r (stage_at (stages_of r) stage).kind w p) → IsSoundBy setting (runs_of setting records) w → IsWrong call list w.pair now k half → ⊥
+    → ((p : ℕ) → has list p ≡ true → IsForCall setting.estate r (stage_at (stages_of r) stage).kind w p) → IsSoundBy setting (runs_of setting records) w → IsWrong call list w.pair now k half → ⊥
 not_wrong setting records r stage call list w now k half lawful at_n going its of_stage each s wrong =
     let it = each k wrong.first.listed in
     let last : last_of_group it.group (runs_of setting records) ≡ Some r = open_is_last (number r) it.group r (runs_of setting records) (table-lawful setting [] records lawful tt) at_n going it.held in

@@ -27,7 +27,7 @@ use Rattle.dr_model.proofs.WholeSkips.{frame_holds, complete_makes}
 use Rattle.dr_model.proofs.ExpectedLaws.{filter-find}
 use Rattle.dr_model.proofs.LogLaws.{DoneBefore}
 use Rattle.dr_model.proofs.PhaseLaws.{IsChain, StartsAt, Opens, chain_frames, after_unfinished}
-use Rattle.dr_model.proofs.NumberLaws.{kind-same, Shows}
+use Rattle.dr_model.proofs.NumberLaws.{kind-same, ShowsDone}
 use Rattle.dr_model.proofs.SequenceLaws.{IsInSequence, IsFilled, Visits_at}
 use Rattle.dr_model.proofs.ChainLaws.{IsWellKept}
 use Rattle.dr_model.proofs.WaveOrder.{number_with}
@@ -217,7 +217,7 @@ module _ (r : Run) (back : op r ≡ Op.Reprotect) where
 
 -- What the Dones of a cleanup and a reprotect ask for, but for a reprotect's FinalSync
 
-shows_back : (k : ℕ) (r : Run) (kind : StageKind) (q : Pair) → is_start_up (op r) ≡ false → (op r ≡ Op.Reprotect → kind ≡ StageKind.FinalSync → ⊥) → Shows k q r kind
+shows_back : (k : ℕ) (r : Run) (kind : StageKind) (q : Pair) → is_start_up (op r) ≡ false → (op r ≡ Op.Reprotect → kind ≡ StageKind.FinalSync → ⊥) → ShowsDone k q r kind
 shows_back k r kind q down none = record {
   tested = λ e is. absurd (let wrong : true ≡ false = rw e at down in cc);
   replicated = λ e is. absurd (starts e);
@@ -288,19 +288,19 @@ module _ (setting : Setting) (runs : List Run) (well : IsWellKept setting runs) 
       done_below r sequence (λ e. let wrong : Op.Reprotect ≡ Op.Failover = sym back ∙ e in absurd cc) v earlier shape (λ e. let wrong : StageKind.FinalSync ≡ StageKind.Prompt = sym final ∙ e in absurd cc) StageKind.Reverse (omega (arith, ap rank final)) (has_reverse r back) in
       reversed_live r back reversed expected.0 (frame_of q) reach
 
-  replicated : IsReplication (stage_of r v).kind → Shows k q r (stage_of r v).kind
+  replicated : IsReplication (stage_of r v).kind → ShowsDone k q r (stage_of r v).kind
   replicated is = by_op (op r) refl
     where
-      by_op : (o : Op) → op r ≡ o → Shows k q r (stage_of r v).kind
+      by_op : (o : Op) → op r ≡ o → ShowsDone k q r (stage_of r v).kind
       by_op Op.Failover o = split_shows setting runs well ordered g took r last going o v earlier shape (low is) k q fits (split is)
       by_op Op.Testing o = absurd (not_both q.link (live (rw o refl) (λ e. let wrong : Op.Testing ≡ Op.Failover = sym o ∙ e in absurd cc) is) (split is))
       by_op Op.Migrate o = absurd (not_both q.link (live (rw o refl) (λ e. let wrong : Op.Migrate ≡ Op.Failover = sym o ∙ e in absurd cc) is) (split is))
       by_op Op.Cleanup o = shows_back k r (stage_of r v).kind q (rw o refl) (λ e final. let wrong : Op.Cleanup ≡ Op.Reprotect = sym o ∙ e in cc)
       by_op Op.Reprotect o = shows_back k r (stage_of r v).kind q (rw o refl) (λ e final. not_both q.link (live_at_final e final) (split is))
 
-  pub left_out_shows : Shows k q r (stage_of r v).kind
+  pub left_out_shows : ShowsDone k q r (stage_of r v).kind
   left_out_shows = go (replicates (stage_of r v).kind)
     where
-      go : IsReplication (stage_of r v).kind ⊎ (IsReplication (stage_of r v).kind → ⊥) → Shows k q r (stage_of r v).kind
+      go : IsReplication (stage_of r v).kind ⊎ (IsReplication (stage_of r v).kind → ⊥) → ShowsDone k q r (stage_of r v).kind
       go (inl is) = replicated is
       go (inr quiet) = other_shows r v earlier shape sequence quiet k q

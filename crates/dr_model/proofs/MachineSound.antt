@@ -9,7 +9,8 @@ use Rattle.dr_meaning.specs.Types.{Side, Sides, Placed, Pair, Post, Kept, PlanMa
 use Rattle.dr_meaning.specs.declared.stage.Stage.{Stage}
 use Rattle.dr_meaning.specs.StartUp.{is_started}
 use Rattle.dr_meaning.specs.Worlds.{World}
-use Rattle.dr_meaning.specs.Stages.{has, stage_at}
+use Rattle.dr_base.specs.Lists.{has}
+use Rattle.dr_meaning.specs.Stages.{stage_at}
 use Rattle.dr_meaning.specs.Visits.{begun, all}
 use Rattle.dr_meaning.specs.Runs.{Setting, Run, number, op, new, stages_of, holds, is_finished, is_open, run_at, last_of_group, runs_of}
 use Rattle.dr_meaning.specs.Outcomes.{PostOutcome}
@@ -17,7 +18,7 @@ use Rattle.dr_meaning.specs.Reach.{works}
 use Rattle.dr_meaning.specs.Expected.{wanted, ExpectedPost}
 use Rattle.dr_meaning.specs.Lawful.{LawfulAfter}
 use Rattle.dr_meaning.specs.Fits.{FitsPair, FitsMachine}
-use Rattle.dr_meaning.specs.InOrder.{is_start_up, is_ready, is_ready_at_new, keeps, IsServing, MayRun}
+use Rattle.dr_meaning.specs.InOrder.{is_start_up, is_ready, is_ready_at_new, has_code, IsServing, MayRun}
 use Rattle.dr_meaning.specs.Calls.{KeepsCodes, CallsMachines, OnlyKeepsCodes}
 use Rattle.dr_meaning.specs.Sound.{IsKept, IsSoundBy, IsSound}
 use Rattle.dr_meaning.specs.Backing.{IsRegularPlan, HasRegularPlans, Names, KeepsOrder}
@@ -38,10 +39,10 @@ use Rattle.dr_model.proofs.CallSound.{serves_drift}
 -- Kept codes ---------------------------------------------------------------------------------------------------
 
 -- what keeps each code keeps each token's
-keeps_more : (before after : List Kept) → KeepsCodes before after → (token : ℕ) → keeps before token ≡ true → keeps after token ≡ true
+keeps_more : (before after : List Kept) → KeepsCodes before after → (token : ℕ) → has_code before token ≡ true → has_code after token ≡ true
 keeps_more before after more token h = go (code_of before token) refl h
   where
-    go : (o : Option ℕ) → code_of before token ≡ o → is_some o ≡ true → keeps after token ≡ true
+    go : (o : Option ℕ) → code_of before token ≡ o → is_some o ≡ true → has_code after token ≡ true
     go None e k = absurd cc
     go (Some code) e k = ap is_some (more token code e)
 
@@ -222,7 +223,7 @@ module _ (setting : Setting) (records : List Record) (lawful : LawfulAfter setti
     keeps_order = record {
       ready = stays_ready;
       kept = λ m. keeps_more (old.kept m) (now.kept m) (calls.kept m);
-      runner = λ t h. ap (λ l. keeps l t) same_runner ∙ h;
+      runner = λ t h. ap (λ l. has_code l t) same_runner ∙ h;
       serving = λ m k listed on h. serves_drift (op run) (number run) (old.pair k) (now.pair k) (calls.drifts k) h;
       starts = each-contains (λ m. is_started (at (new run) (now.post m.machine)) ≡ true → (is_started (at (new run) (old.post m.machine)) ≡ true) ⊎ MayRun now run m) run.plan.machines starts;
     }

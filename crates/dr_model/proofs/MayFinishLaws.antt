@@ -10,7 +10,7 @@ use Rattle.dr_plan.proofs.OrderLaws.{mapped_to}
 use Rattle.dr_meaning.specs.Types.{Op, PlanMachine, Estate, Record}
 use Rattle.dr_meaning.specs.declared.stage.StageKind.{StageKind}
 use Rattle.dr_meaning.specs.declared.stage.Stage.{Stage}
-use Rattle.dr_meaning.specs.Stages.{has}
+use Rattle.dr_base.specs.Lists.{has}
 use Rattle.dr_meaning.specs.Visits.{Visit, visits, mark_done, excuse, begun, is_visit_done, is_done, is_excused}
 use Rattle.dr_meaning.specs.Runs.{Setting, Run, number, op, stages_of, run_at, run_named, add_record, runs_of}
 use Rattle.dr_meaning.specs.Meaning.{same_kind, is_wave_of, is_left}

@@ -11,7 +11,8 @@ use Rattle.dr_meaning.specs.Types.{Op, Link, Pair, Placed, Post, Callout, Step, 
 use Rattle.dr_meaning.specs.declared.stage.StageKind.{StageKind}
 use Rattle.dr_meaning.specs.declared.stage.Stage.{Stage}
 use Rattle.dr_meaning.specs.Worlds.{World}
-use Rattle.dr_meaning.specs.Stages.{has, step_stage, stage_at}
+use Rattle.dr_base.specs.Lists.{has}
+use Rattle.dr_meaning.specs.Stages.{step_stage, stage_at}
 use Rattle.dr_meaning.specs.Visits.{Visit, visits, all, last_visit, is_visit_done, is_done}
 use Rattle.dr_meaning.specs.Runs.{Setting, Run, number, op, new, root, migration, stages_of, holds, is_finished, is_open, run_at, last_of_group, runs_of}
 use Rattle.dr_meaning.specs.Reach.{ReachFrame, ReachPost, stage_of}
@@ -19,7 +20,7 @@ use Rattle.dr_meaning.specs.Meaning.{is_wave_of, is_left}
 use Rattle.dr_meaning.specs.Expected.{wanted}
 use Rattle.dr_meaning.specs.Lawful.{LawfulAfter, token_of, tokens_from, is_coded, is_answered}
 use Rattle.dr_meaning.specs.Fits.{is_recovery}
-use Rattle.dr_meaning.specs.InOrder.{is_ready, is_aside, is_start_up, is_ready_at_new, keeps, IsPairOfMachine, IsServing, StepTaken, StepsTaken, MayRun}
+use Rattle.dr_meaning.specs.InOrder.{is_ready, is_aside, is_start_up, is_ready_at_new, has_code, IsPairOfMachine, IsServing, StepTaken, StepsTaken, MayRun}
 use Rattle.dr_meaning.specs.Sound.{IsKept, IsSoundBy}
 use Rattle.dr_meaning.specs.Backing.{IsRegularPlan, HasRegularPlans, IsEarlier}
 use Rattle.dr_meaning.proofs.Lists.{Each, each-find, find-passes}
@@ -163,7 +164,7 @@ module _ (setting : Setting) (records : List Record) (lawful : LawfulAfter setti
   logged : Each (IsKept old) run.log
   logged = each-find (λ (q : Run). Each (IsKept old) q.log) is_it runs run sound.codes at_n
 
-  module _ (runner : (t : ℕ) → keeps old.runner t ≡ true → keeps now.runner t ≡ true) where
+  module _ (runner : (t : ℕ) → has_code old.runner t ≡ true → has_code now.runner t ≡ true) where
     -- a done stage has taken its step
     done_taken : (k : ℕ) (what : Callout) (before i : ℕ) → is_done run.log i ≡ true → stage_at (stages_of run) i ≡ step_stage k (record { before = before; what = what }) → StepTaken now.runner run k what
     done_taken k what before i done its = go what (done_visit run.log i done) its
@@ -214,7 +215,7 @@ module _ (setting : Setting) (records : List Record) (lawful : LawfulAfter setti
             (λ test. snapshot_at_start run sequence test v earlier shape starts x (frame_of (old.pair p)) reach)
 
   -- A machine of the begun wave may be started: since the outside was sound nothing that it rests on was lost.
-  pub may_run : ((x : PlanMachine) → Contains run.plan.machines x → x.machine < old.machine_count) → ((p : ℕ) → IsPairOfMachine run.estate m.machine p → p < old.pair_count) → (op run ≡ Op.Failover → Each (λ d. is_left run d ≡ false) m.after) → ((d : ℕ) → has (stage_at (stages_of run) v.stage).machines d ≡ false → is_ready_at_new old run d ≡ true → is_ready_at_new now run d ≡ true) → ((t : ℕ) → keeps old.runner t ≡ true → keeps now.runner t ≡ true) → ((p : ℕ) → IsPairOfMachine run.estate m.machine p → frame_of (now.pair p) ≡ frame_of (old.pair p)) → Each (λ t. keeps (now.kept m.machine) t ≡ true) (tokens_from (root run) 0 (take 2 m.commands)) → MayRun now run m
+  pub may_run : ((x : PlanMachine) → Contains run.plan.machines x → x.machine < old.machine_count) → ((p : ℕ) → IsPairOfMachine run.estate m.machine p → p < old.pair_count) → (op run ≡ Op.Failover → Each (λ d. is_left run d ≡ false) m.after) → ((d : ℕ) → has (stage_at (stages_of run) v.stage).machines d ≡ false → is_ready_at_new old run d ≡ true → is_ready_at_new now run d ≡ true) → ((t : ℕ) → has_code old.runner t ≡ true → has_code now.runner t ≡ true) → ((p : ℕ) → IsPairOfMachine run.estate m.machine p → frame_of (now.pair p) ≡ frame_of (old.pair p)) → Each (λ t. has_code (now.kept m.machine) t ≡ true) (tokens_from (root run) 0 (take 2 m.commands)) → MayRun now run m
   may_run there has_pairs none readies runner frames commands = record {
     dependencies = each-contains (λ d. IsTrue (is_ready_at_new now run d)) m.after (depended there readies none);
     priorities = each-contains (λ x. x.priority < m.priority → (is_ready_at_new now run x.machine ≡ true) ⊎ (list_any (is_aside x.machine) run.log ≡ true)) run.plan.machines (ready_or_aside there readies);

@@ -6,12 +6,13 @@ use Rattle.dr_meaning.specs.Types.{Op, Pair, Record}
 use Rattle.dr_meaning.specs.declared.stage.StageKind.{StageKind}
 use Rattle.dr_meaning.specs.declared.stage.Stage.{Stage}
 use Rattle.dr_outside.specs.BySide.{at}
-use Rattle.dr_meaning.specs.Stages.{has, stage_at}
+use Rattle.dr_base.specs.Lists.{has}
+use Rattle.dr_meaning.specs.Stages.{stage_at}
 use Rattle.dr_meaning.specs.Visits.{Visit, visits, mark_done, excuse, all}
 use Rattle.dr_meaning.specs.Runs.{Run, number, op, stages_of, holds, last_of_group, run_at, run_named, take_in}
 use Rattle.dr_meaning.specs.Meaning.{same_kind, is_of_kind}
-use Rattle.dr_meaning.specs.Fits.{row_of, is_recovery, is_visit_whole, is_done_whole, held, IsReplicatedTest, HoldsAll, IsSplitIn, FitsWrites, FitsNumbers, splits}
-pub use Rattle.dr_meaning.specs.Backing.{Shows}
+use Rattle.dr_meaning.specs.Fits.{pair_row, is_recovery, is_visit_whole, is_done_whole, held, IsReplicatedTest, HoldsAll, IsSplitIn, FitsWrites, FitsNumbers, splits}
+pub use Rattle.dr_meaning.specs.Backing.{ShowsDone}
 use Rattle.dr_meaning.proofs.Lists.{each-find}
 use Rattle.dr_model.proofs.LogLaws.{only_run}
 use Rattle.dr_model.proofs.ReachLaws.{with_record, kind_at}
@@ -108,7 +109,7 @@ module _ (k : ℕ) (pair : Pair) (run : Run) (n stage : ℕ) (v : Visit) (vs : L
   done_now : (kind : StageKind) → is_done_whole (with_record run (Record.Done n stage)) kind ≡ true → (is_done_whole run kind ≡ true) ⊎ ((kind_at run v.stage ≡ kind) × (has v.excused all ≡ false))
   done_now kind h = rw begun (whole-done (stages_of run) kind v vs (rw begun at h))
 
-  pub fits_writes-done : (has v.excused all ≡ false → Shows k pair run (kind_at run v.stage)) → FitsWrites k pair run → FitsWrites k pair (with_record run (Record.Done n stage))
+  pub fits_writes-done : (has v.excused all ≡ false → ShowsDone k pair run (kind_at run v.stage)) → FitsWrites k pair run → FitsWrites k pair (with_record run (Record.Done n stage))
   fits_writes-done shows h = record {
     since_start = h.since_start;
     since_migration = h.since_migration;
@@ -138,19 +139,19 @@ module _ (k : ℕ) (pair : Pair) (run : Run) (n stage : ℕ) (v : Visit) (vs : L
       or_right true b e = refl
       or_right false b e = e
 
-      tested : op run ≡ Op.Testing → Now StageKind.Sync → IfSome (row_of k run.start) (IsReplicatedTest (number run) run.old pair)
+      tested : op run ≡ Op.Testing → Now StageKind.Sync → IfSome (pair_row k run.start) (IsReplicatedTest (number run) run.old pair)
       tested e (inl done) = h.tested e done
       tested e (inr (kind, whole)) = (shows whole).tested e kind
 
-      final : is_recovery (op run) ≡ true → Now StageKind.FinalSync → IfSome (row_of k run.start) (λ row. row.seen ≡ true → row.old_writes ≤ held run.old pair)
+      final : is_recovery (op run) ≡ true → Now StageKind.FinalSync → IfSome (pair_row k run.start) (λ row. row.seen ≡ true → row.old_writes ≤ held run.old pair)
       final e (inl done) = h.replicated e (or_right (is_done_whole run StageKind.Sync) _ done)
       final e (inr (kind, whole)) = (shows whole).replicated e (inr kind)
 
-      sync : is_recovery (op run) ≡ true → Now StageKind.Sync → IfSome (row_of k run.start) (λ row. row.seen ≡ true → row.old_writes ≤ held run.old pair)
+      sync : is_recovery (op run) ≡ true → Now StageKind.Sync → IfSome (pair_row k run.start) (λ row. row.seen ≡ true → row.old_writes ≤ held run.old pair)
       sync e (inl done) = h.replicated e (rw done refl)
       sync e (inr (kind, whole)) = (shows whole).replicated e (inl kind)
 
-      replicated : is_recovery (op run) ≡ true → (is_done_whole (with_record run (Record.Done n stage)) StageKind.Sync ≡ true) ⊎ (is_done_whole (with_record run (Record.Done n stage)) StageKind.FinalSync ≡ true) → IfSome (row_of k run.start) (λ row. row.seen ≡ true → row.old_writes ≤ held run.old pair)
+      replicated : is_recovery (op run) ≡ true → (is_done_whole (with_record run (Record.Done n stage)) StageKind.Sync ≡ true) ⊎ (is_done_whole (with_record run (Record.Done n stage)) StageKind.FinalSync ≡ true) → IfSome (pair_row k run.start) (λ row. row.seen ≡ true → row.old_writes ≤ held run.old pair)
       replicated e (inl done) = sync e (done_now StageKind.Sync done)
       replicated e (inr done) = final e (done_now StageKind.FinalSync done)
 
@@ -160,7 +161,7 @@ module _ (k : ℕ) (pair : Pair) (run : Run) (n stage : ℕ) (v : Visit) (vs : L
       kept_all e (inr (kind, whole)) (inl synced) = (shows whole).kept_all e (inr (kind, synced))
       kept_all e (inr (kind, whole)) (inr (other, _)) = absurd (let wrong : StageKind.Prepare ≡ StageKind.FinalSync = sym kind ∙ other in cc)
 
-      reversed : op run ≡ Op.Reprotect → Now StageKind.FinalSync → IfSome (row_of k run.start) (λ row. row.new_writes ≤ (at run.old pair.content).writes)
+      reversed : op run ≡ Op.Reprotect → Now StageKind.FinalSync → IfSome (pair_row k run.start) (λ row. row.new_writes ≤ (at run.old pair.content).writes)
       reversed e (inl done) = h.reversed e done
       reversed e (inr (kind, whole)) = (shows whole).reversed e kind
 
@@ -234,6 +235,6 @@ no_more-quiet run (Record.Start row) quiet = elim quiet [ ]
 no_more-quiet run (Record.Done n stage) quiet = elim quiet [ ]
 
 -- a Done, once the pair shows what its stage is to show, or all pairs are skipped
-pub numbers-done : (runs : List Run) (r : Run) (stage : ℕ) (v : Visit) (vs : List Visit) (g k : ℕ) (pair : Pair) → Falls runs → run_at (number r) runs ≡ Some r → visits r.log ≡ v ∷ vs → (last_of_group g runs ≡ Some r → has v.excused all ≡ false → Shows k pair r (kind_at r v.stage)) → FitsNumbers runs g k pair → FitsNumbers (map (take_in (Record.Done (number r) stage)) runs) g k pair
+pub numbers-done : (runs : List Run) (r : Run) (stage : ℕ) (v : Visit) (vs : List Visit) (g k : ℕ) (pair : Pair) → Falls runs → run_at (number r) runs ≡ Some r → visits r.log ≡ v ∷ vs → (last_of_group g runs ≡ Some r → has v.excused all ≡ false → ShowsDone k pair r (kind_at r v.stage)) → FitsNumbers runs g k pair → FitsNumbers (map (take_in (Record.Done (number r) stage)) runs) g k pair
 numbers-done runs r stage v vs g k pair falls at_n begun shows =
     numbers-record runs r (Record.Done (number r) stage) g k pair falls at_n (λ last. fits_writes-done k pair r (number r) stage v vs begun (shows last))

@@ -7,8 +7,8 @@ use Rattle.dr_meaning.specs.Types.{Op, Link, Pair, StartRow, Plan, Record, Group
 use Rattle.dr_base.specs.Sides.{other}
 use Rattle.dr_outside.specs.Pairs.{frame_of}
 use Rattle.dr_meaning.specs.Opening.{opening_frame}
-use Rattle.dr_meaning.specs.Stages.{has}
-use Rattle.dr_meaning.specs.Runs.{migration, migration_of, Setting, Run, Taken, number, op, new, root, holds, is_finished, is_open, group_state, last_of_group, run_at, take_over, as_taken, protected_side, begin_run, add_record}
+use Rattle.dr_base.specs.Lists.{has}
+use Rattle.dr_meaning.specs.Runs.{migration, migration_of, Setting, Run, TakenOver, number, op, new, root, holds, is_finished, is_open, group_state, last_of_group, run_at, take_over, as_taken, protected_side, begin_run, add_record}
 use Rattle.dr_meaning.specs.Lawful.{MayCome, MayStart, takes_over, is_taken_over, StartsFrom}
 use Rattle.dr_meaning.specs.Expected.{After, LeavesFrame, ExpectedFrame}
 use Rattle.dr_meaning.specs.Fits.{ReadsAtMostIn, root_start, start_or, is_recovery, was_frozen_and_replicated, HoldsAll, IsSplitBy, IsSplitIn, FitsWrites, FitsNumbers, splits}
@@ -74,7 +74,7 @@ splits_last g (q ∷ runs) p e is = go (holds g q) refl (λ later. splits_last g
     go false held rest = rw held (rest (rw held at e))
 
 -- only a failover has a migration before it
-migration-if : (o : Op) (took : Option Taken) (P : Taken → Type 0) → (o ≡ Op.Failover → IfSome took P) → IfSome (migration_of o took) P
+migration-if : (o : Op) (took : Option TakenOver) (P : TakenOver → Type 0) → (o ≡ Op.Failover → IfSome took P) → IfSome (migration_of o took) P
 migration-if Op.Failover took P h = h refl
 migration-if Op.Testing took P h = tt
 migration-if Op.Cleanup took P h = tt
@@ -123,7 +123,7 @@ module _ (setting : Setting) (runs : List Run) (row : StartRow) (plan : Plan) (g
   pub took_facts : (q : Run) → find (is_taken_over row) runs ≡ Some q → takes_over row.op (op q) ≡ true
   took_facts q f = (over_is setting runs row plan g may t plans at_plan held kept q f).1
 
-  from_migration : (P : Taken → Type 0) → ((q : Run) → find (is_taken_over row) runs ≡ Some q → op q ≡ Op.Migrate → P (as_taken q)) → TakesOver → IfSome (migration started) P
+  from_migration : (P : TakenOver → Type 0) → ((q : Run) → find (is_taken_over row) runs ≡ Some q → op q ≡ Op.Migrate → P (as_taken q)) → TakesOver → IfSome (migration started) P
   from_migration P each took = migration-if row.op (option_map as_taken (run_at row.over runs)) P (go took)
     where
       go : TakesOver → row.op ≡ Op.Failover → IfSome (option_map as_taken (run_at row.over runs)) P

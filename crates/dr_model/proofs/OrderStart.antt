@@ -8,11 +8,11 @@ use Rattle.dr_meaning.specs.Types.{Side, Op, Link, Pair, Post, Callout, Step, Pl
 use Rattle.dr_meaning.specs.Worlds.{World}
 use Rattle.dr_base.specs.Sides.{other, same_side}
 use Rattle.dr_outside.specs.BySide.{at}
-use Rattle.dr_meaning.specs.Stages.{has}
+use Rattle.dr_base.specs.Lists.{has}
 use Rattle.dr_meaning.specs.Runs.{is_open, group_state, Setting, Run, number, op, new, root, migration_of, holds, last_of_group, run_at, run_named, take_over, as_taken, add_record}
 use Rattle.dr_meaning.specs.Lawful.{StartsFrom, MayStart, MayCome, LawfulAfter, takes_over, is_taken_over, is_answer, was_answered, is_answered, tokens_from}
 use Rattle.dr_meaning.specs.StartUp.{is_started}
-use Rattle.dr_meaning.specs.InOrder.{IsPairOfMachine, is_ready, is_ready_at_new, is_aside, is_start_up, keeps, IsServing, StepTaken, StepsTaken, MayRun, InOrder}
+use Rattle.dr_meaning.specs.InOrder.{IsPairOfMachine, is_ready, is_ready_at_new, is_aside, is_start_up, has_code, IsServing, StepTaken, StepsTaken, MayRun, InOrder}
 use Rattle.dr_meaning.proofs.Lists.{Each, each-map, each-find, find-passes, find-filter}
 use Rattle.dr_model.proofs.ReachLaws.{with_record}
 use Rattle.dr_model.proofs.TableLaws.{start_take_over}
@@ -85,7 +85,7 @@ module _ (w : World) (q f : Run) (migrates : op q ≡ Op.Migrate) (fails : op f 
   steps_over priority k (step ∷ steps) h = (λ le. taken_over step.what (h.0 le), steps_over priority (k + 1) steps h.1)
     where
       taken_over : (what : Callout) → StepTaken w.runner q k what → StepTaken w.runner f k what
-      taken_over (Callout.Command name) t = ap (λ n. keeps w.runner (n * 2 ^ 32 + k)) (sym same_root) ∙ t
+      taken_over (Callout.Command name) t = ap (λ n. has_code w.runner (n * 2 ^ 32 + k)) (sym same_root) ∙ t
       taken_over (Callout.Prompt text) t = answered_over k t
 
   ready_over : (m : ℕ) → is_ready_at_new w q m ≡ true → is_ready_at_new w f m ≡ true
@@ -101,7 +101,7 @@ module _ (w : World) (q f : Run) (migrates : op q ≡ Op.Migrate) (fails : op f 
     dependencies = each-map (λ d. IsTrue (is_ready_at_new w q d)) (λ d. IsTrue (is_ready_at_new w f d)) ready_over m.after h.dependencies;
     priorities = subst (λ p. Each (λ x. x.priority < m.priority → (is_ready_at_new w f x.machine ≡ true) ⊎ (list_any (is_aside x.machine) f.log ≡ true)) p.machines) same_plan
         (each-map (λ x. x.priority < m.priority → (is_ready_at_new w q x.machine ≡ true) ⊎ (list_any (is_aside x.machine) q.log ≡ true)) (λ x. x.priority < m.priority → (is_ready_at_new w f x.machine ≡ true) ⊎ (list_any (is_aside x.machine) f.log ≡ true)) (λ x g below. ready x (g below)) q.plan.machines h.priorities);
-    commands = subst (λ ts. Each (λ t. IsTrue (keeps (w.kept m.machine) t)) ts) (ap (λ n. tokens_from n 0 (take 2 m.commands)) same_root) h.commands;
+    commands = subst (λ ts. Each (λ t. IsTrue (has_code (w.kept m.machine) t)) ts) (ap (λ n. tokens_from n 0 (take 2 m.commands)) same_root) h.commands;
     steps = subst (λ p. StepsTaken w.runner f m.priority 1 p.steps) same_plan (steps_over m.priority 1 q.plan.steps h.steps);
     serving = λ p on. serving_over (w.pair p) (h.serving p (subst (λ e. IsPairOfMachine e m.machine p) (sym same_estate) on));
   }

@@ -6,7 +6,8 @@ use Rattle.dr_meaning.specs.Types.{Side, Op, Placed, Post, Record}
 use Rattle.dr_meaning.specs.declared.stage.StageKind.{StageKind}
 use Rattle.dr_meaning.specs.declared.stage.Stage.{Stage}
 use Rattle.dr_base.specs.Sides.{same_side}
-use Rattle.dr_meaning.specs.Stages.{has, stage_at}
+use Rattle.dr_base.specs.Lists.{has}
+use Rattle.dr_meaning.specs.Stages.{stage_at}
 use Rattle.dr_meaning.specs.Runs.{Setting, Run, number, op, new, stages_of, holds, is_finished, is_open, group_state, last_of_group, run_at, take_in, add_record, runs_of}
 use Rattle.dr_meaning.specs.Outcomes.{IsAsWanted}
 use Rattle.dr_meaning.specs.Reach.{works}

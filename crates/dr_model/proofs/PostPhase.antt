@@ -7,7 +7,8 @@ use Rattle.dr_meaning.specs.declared.stage.StageKind.{StageKind}
 use Rattle.dr_meaning.specs.declared.stage.Stage.{Stage}
 use Rattle.dr_base.specs.Sides.{other, same_side}
 use Rattle.dr_meaning.specs.Opening.{IsInService}
-use Rattle.dr_meaning.specs.Stages.{has, stages}
+use Rattle.dr_base.specs.Lists.{has}
+use Rattle.dr_meaning.specs.Stages.{stages}
 use Rattle.dr_meaning.specs.Visits.{Visit, visits}
 use Rattle.dr_meaning.specs.Runs.{Run, op, new, stages_of, holds, is_finished, finish, named_side, group_state}
 use Rattle.dr_meaning.specs.Outcomes.{PostOutcome, IsAsWanted}

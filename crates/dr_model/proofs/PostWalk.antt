@@ -3,7 +3,8 @@ use Rattle.std.specs.Prelude.{◌≡◌, ℕ, ◌⊎◌, true, false, List, ◌�
 use Rattle.std.proofs.Common.{refl}
 use Rattle.dr_meaning.specs.Types.{Side, Post, Estate, Record}
 use Rattle.dr_meaning.specs.declared.stage.StageKind.{StageKind}
-use Rattle.dr_meaning.specs.Stages.{has, stage_at}
+use Rattle.dr_base.specs.Lists.{has}
+use Rattle.dr_meaning.specs.Stages.{stage_at}
 use Rattle.dr_meaning.specs.Visits.{Visit, visits}
 use Rattle.dr_meaning.specs.Runs.{Run, number, stages_of, is_finished, last_of_group, take_in}
 use Rattle.dr_meaning.specs.Outcomes.{IsAsWanted, made_post, PostOutcome}

@@ -4,7 +4,8 @@ use Rattle.std.proofs.Common.{refl, sym, ◌∙◌, inl, inr}
 use Rattle.dr_meaning.specs.Types.{Side, Placed, Post, Record}
 use Rattle.dr_meaning.specs.declared.stage.StageKind.{StageKind}
 use Rattle.dr_outside.specs.Pairs.{Frame}
-use Rattle.dr_meaning.specs.Stages.{has, stage_at}
+use Rattle.dr_base.specs.Lists.{has}
+use Rattle.dr_meaning.specs.Stages.{stage_at}
 use Rattle.dr_meaning.specs.Visits.{Visit, visits, excuse, all}
 use Rattle.dr_meaning.specs.Runs.{Run, stages_of}
 use Rattle.dr_meaning.specs.Outcomes.{IsAsWanted, made_frame, FrameOutcome, made_post, PostOutcome}

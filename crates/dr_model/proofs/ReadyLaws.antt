@@ -6,7 +6,8 @@ use Rattle.std.proofs.lemmas.Bool.{ne_eqb, eqb-true}
 use Rattle.dr_meaning.specs.Types.{Placed, Post, Record}
 use Rattle.dr_meaning.specs.declared.stage.StageKind.{StageKind}
 use Rattle.dr_meaning.specs.declared.stage.Stage.{Stage}
-use Rattle.dr_meaning.specs.Stages.{has, stage_at}
+use Rattle.dr_base.specs.Lists.{has}
+use Rattle.dr_meaning.specs.Stages.{stage_at}
 use Rattle.dr_meaning.specs.Visits.{Visit, visits, mark_done, excuse, open_stage, is_visit_done, is_done}
 use Rattle.dr_meaning.specs.Runs.{Setting, Run, op, new, stages_of, run_at, run_named, add_record}
 use Rattle.dr_meaning.specs.Outcomes.{PostOutcome}

@@ -5,7 +5,7 @@ use Rattle.std.proofs.lemmas.List.Elements.{All-contains}
 use Rattle.dr_plan.specs.Orders.{IsPriority}
 use Rattle.dr_groups.specs.Groups.{IsMachineOf as IsOfGroup}
 use Rattle.dr_meaning.specs.Types.{PlanMachine, Plan, Estate}
-use Rattle.dr_meaning.specs.Stages.{has}
+use Rattle.dr_base.specs.Lists.{has}
 use Rattle.dr_meaning.specs.Runs.{Setting, Run, holds}
 use Rattle.dr_meaning.specs.Backing.{IsRegularPlan, HasRegularPlans, IsEntry}
 use Rattle.dr_meaning.proofs.Elements.{some_of-contains, contains-has}

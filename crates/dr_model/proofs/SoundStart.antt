@@ -9,7 +9,7 @@ use Rattle.dr_meaning.specs.Worlds.{World}
 use Rattle.dr_outside.specs.BySide.{at}
 use Rattle.dr_base.specs.Sides.{same_side}
 use Rattle.dr_groups.specs.Groups.{IsPairOf}
-use Rattle.dr_meaning.specs.Stages.{has}
+use Rattle.dr_base.specs.Lists.{has}
 use Rattle.dr_meaning.specs.Visits.{Visit, visits, all}
 use Rattle.dr_meaning.specs.Runs.{Setting, Run, number, op, holds, is_finished, take_over, protected_side, begin_run, add_record, runs_of}
 use Rattle.dr_meaning.specs.Outcomes.{made_frame, FrameOutcome}

@@ -7,7 +7,8 @@ use Rattle.dr_meaning.specs.Types.{Op, Callout, Step, PlanMachine, Plan, Wave, R
 use Rattle.dr_meaning.specs.declared.stage.StageKind.{StageKind}
 use Rattle.dr_meaning.specs.declared.stage.Stage.{Stage}
 use Rattle.dr_plan.specs.Waves.{above, machines_at, wave_of, wave_at, waves_at, waves_of, priorities}
-use Rattle.dr_meaning.specs.Stages.{stages, has, array_stage, recovery, step_stage, wave_stage, steps_before, start_priority, start_up, wind_down, no_stage, stage_from}
+use Rattle.dr_base.specs.Lists.{has}
+use Rattle.dr_meaning.specs.Stages.{stages, array_stage, recovery, step_stage, wave_stage, steps_before, start_priority, start_up, wind_down, no_stage, stage_from}
 use Rattle.dr_meaning.specs.Visits.{is_done}
 use Rattle.dr_meaning.specs.InOrder.{is_start_up}
 use Rattle.dr_meaning.specs.Next.{least_stage}

@@ -8,7 +8,8 @@ use Rattle.dr_meaning.specs.declared.stage.StageKind.{StageKind}
 use Rattle.dr_meaning.specs.declared.stage.Stage.{Stage}
 use Rattle.dr_meaning.specs.Worlds.{World}
 use Rattle.dr_outside.specs.BySide.{at}
-use Rattle.dr_meaning.specs.Stages.{has, stage_at, stage_from}
+use Rattle.dr_base.specs.Lists.{has}
+use Rattle.dr_meaning.specs.Stages.{stage_at, stage_from}
 use Rattle.dr_meaning.specs.Visits.{Visit, visits}
 use Rattle.dr_meaning.specs.Runs.{Setting, Run, op, new, stages_of, holds, is_finished, last_of_group, runs_of}
 use Rattle.dr_meaning.specs.Reach.{works, PostStep, ReachPost, stage_of}
@@ -16,7 +17,7 @@ use Rattle.dr_meaning.specs.Meaning.{same_kind, is_wave_of, is_left}
 use Rattle.dr_meaning.specs.Expected.{wanted, ExpectedPost}
 use Rattle.dr_meaning.specs.Lawful.{LawfulAfter}
 use Rattle.dr_meaning.specs.StartUp.{is_started}
-use Rattle.dr_meaning.specs.InOrder.{is_ready, is_aside, keeps, is_start_up, is_ready_at_new, StepTaken, StepsTaken, MayRun, InOrder}
+use Rattle.dr_meaning.specs.InOrder.{is_ready, is_aside, has_code, is_start_up, is_ready_at_new, StepTaken, StepsTaken, MayRun, InOrder}
 use Rattle.dr_meaning.specs.Backing.{KeepsOrder}
 use Rattle.dr_meaning.proofs.Elements.{each-contains, at-contains}
 use Rattle.dr_meaning.proofs.Lists.{Each, each-map, each-find, find-passes, all_each, Some_of, some_of-map}
@@ -105,7 +106,7 @@ module _ (w z : World) (run : Run) (h : KeepsOrder w z run) where
   may_run_grows m listed r = record {
     dependencies = each-contains (λ d. IsTrue (is_ready_at_new z run d)) m.after (λ d after. h.ready d (m, listed, inr after) (at-contains (λ d. IsTrue (is_ready_at_new w run d)) m.after d r.dependencies after));
     priorities = each-contains (λ q. q.priority < m.priority → (is_ready_at_new z run q.machine ≡ true) ⊎ (list_any (is_aside q.machine) run.log ≡ true)) run.plan.machines (λ q in_plan below. ready q in_plan (at-contains (λ q. q.priority < m.priority → (is_ready_at_new w run q.machine ≡ true) ⊎ (list_any (is_aside q.machine) run.log ≡ true)) run.plan.machines q r.priorities in_plan below));
-    commands = each-map (λ t. IsTrue (keeps (w.kept m.machine) t)) (λ t. IsTrue (keeps (z.kept m.machine) t)) (h.kept m.machine) _ r.commands;
+    commands = each-map (λ t. IsTrue (has_code (w.kept m.machine) t)) (λ t. IsTrue (has_code (z.kept m.machine) t)) (h.kept m.machine) _ r.commands;
     steps = steps_grow m.priority 1 run.plan.steps r.steps;
     serving = λ p on. h.serving m p listed on (r.serving p on);
   }

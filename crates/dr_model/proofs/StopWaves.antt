@@ -10,7 +10,8 @@ use Rattle.dr_plan.proofs.WaveOrder.{are_waves}
 use Rattle.dr_meaning.specs.Types.{PlanMachine, Plan, Wave}
 use Rattle.dr_meaning.specs.declared.stage.StageKind.{StageKind}
 use Rattle.dr_meaning.specs.declared.stage.Stage.{Stage}
-use Rattle.dr_meaning.specs.Stages.{has, array_stage, wave_stage, start_up, wind_down, recovery, no_stage, stage_from, stage_at}
+use Rattle.dr_base.specs.Lists.{has}
+use Rattle.dr_meaning.specs.Stages.{array_stage, wave_stage, start_up, wind_down, recovery, no_stage, stage_from, stage_at}
 use Rattle.dr_meaning.specs.Meaning.{is_wave_of}
 use Rattle.dr_meaning.proofs.Lists.{Each, each-reverse, all_each, each-map, each-of-map}
 use Rattle.dr_meaning.proofs.Elements.{each-contains, contains-has}

@@ -3,7 +3,7 @@ use Rattle.std.specs.Prelude.{◌≡◌, ◌≢◌, ℕ, suc, ◌+◌, ◌<◌, 
 use Rattle.std.proofs.Common.{refl, ap, inl, inr, arith}
 use Rattle.std.proofs.lemmas.Bool.{eq-eqb, ne_eqb, cases_eq}
 use Rattle.dr_meaning.specs.Types.{StartRow, Plan, Record}
-use Rattle.dr_meaning.specs.Stages.{has}
+use Rattle.dr_base.specs.Lists.{has}
 use Rattle.dr_meaning.specs.Runs.{Setting, Run, number, holds, is_finish, is_finished, is_open, last_of_group, run_at, run_named, take_in, take_over, begin_run, add_record}
 use Rattle.dr_meaning.specs.Lawful.{MayStart, MayCome, LawfulAfter}
 use Rattle.dr_meaning.proofs.Lists.{Each, each-map, each-find, each-of-map}

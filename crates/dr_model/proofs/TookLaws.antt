@@ -4,7 +4,7 @@ use Rattle.std.proofs.Common.{refl, sym, ap, ◌∙◌, subst, inl, inr, arith}
 use Rattle.std.proofs.lemmas.Bool.{eqb-true}
 use Rattle.dr_meaning.proofs.Elements.{pick}
 use Rattle.dr_meaning.specs.Types.{Plan, StartRow, Record}
-use Rattle.dr_meaning.specs.Stages.{has}
+use Rattle.dr_base.specs.Lists.{has}
 use Rattle.dr_meaning.specs.Runs.{Setting, Run, number, holds, is_finished, is_open, last_of_group, run_at, run_named, take_in, take_over, as_taken, begin_run, add_record}
 use Rattle.dr_meaning.specs.Lawful.{MayStart, MayCome, LawfulAfter, is_taken_over}
 use Rattle.dr_meaning.proofs.Lists.{Each, each-map, each-find, find-passes, map-same, find-filter}

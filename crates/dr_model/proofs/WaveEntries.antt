@@ -11,7 +11,8 @@ use Rattle.dr_plan.proofs.FaultLaws.{later, tail_up}
 use Rattle.dr_meaning.specs.Types.{Op, PlanMachine, Plan}
 use Rattle.dr_meaning.specs.declared.stage.StageKind.{StageKind}
 use Rattle.dr_meaning.specs.declared.stage.Stage.{Stage}
-use Rattle.dr_meaning.specs.Stages.{has, stages, wave_stage, start_priority, steps_before, start_up, stage_from}
+use Rattle.dr_base.specs.Lists.{has}
+use Rattle.dr_meaning.specs.Stages.{stages, wave_stage, start_priority, steps_before, start_up, stage_from}
 use Rattle.dr_meaning.specs.InOrder.{is_start_up}
 use Rattle.dr_meaning.proofs.Lists.{Each, each-append, each-map, each-flat_map, each-of-map}
 use Rattle.dr_meaning.proofs.Elements.{contains-has}

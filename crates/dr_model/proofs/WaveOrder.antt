@@ -8,7 +8,8 @@ use Rattle.dr_meaning.specs.declared.stage.StageKind.{StageKind}
 use Rattle.dr_meaning.specs.declared.stage.Stage.{Stage}
 use Rattle.std.proofs.lemmas.List.{map-append}
 use Rattle.dr_plan.specs.Waves.{above, machines_at, wave_of, wave_at, priorities}
-use Rattle.dr_meaning.specs.Stages.{has, stages, start_priority, steps_before, start_up, stage_from}
+use Rattle.dr_base.specs.Lists.{has}
+use Rattle.dr_meaning.specs.Stages.{stages, start_priority, steps_before, start_up, stage_from}
 use Rattle.dr_meaning.specs.InOrder.{is_start_up}
 pub use Rattle.dr_meaning.specs.Backing.{IsEarlier}
 use Rattle.dr_meaning.proofs.Lists.{Each, each-append, each-map, Some_of, some_of-right, some_of-flat_map}

@@ -7,7 +7,8 @@ use Rattle.dr_meaning.specs.declared.stage.Stage.{Stage}
 use Rattle.dr_outside.specs.Pairs.{Frame}
 use Rattle.dr_outside.specs.BySide.{at, put}
 use Rattle.dr_base.specs.Sides.{same_side}
-use Rattle.dr_meaning.specs.Stages.{stages, array_stage, wind_down, has}
+use Rattle.dr_base.specs.Lists.{has}
+use Rattle.dr_meaning.specs.Stages.{stages, array_stage, wind_down}
 use Rattle.dr_meaning.specs.Runs.{Run, op, new, stages_of}
 use Rattle.dr_meaning.specs.Outcomes.{made_frame, frozen_frame}
 use Rattle.dr_meaning.specs.Reach.{side_of_wave, ReachFrame, ReachPost}

@@ -3,7 +3,7 @@ use Rattle.std.specs.Prelude.{◌≡◌, ℕ, ◌⊎◌, Bool, true, false, List
 use Rattle.std.proofs.Common.{refl, sym, ◌∙◌, inl, inr}
 use Rattle.dr_meaning.specs.Types.{Placed, Post}
 use Rattle.dr_meaning.specs.declared.stage.StageKind.{StageKind}
-use Rattle.dr_meaning.specs.Stages.{has}
+use Rattle.dr_base.specs.Lists.{has}
 use Rattle.dr_meaning.specs.Visits.{Visit, is_excused}
 use Rattle.dr_meaning.specs.Runs.{Run, new}
 use Rattle.dr_meaning.specs.Outcomes.{PostOutcome}

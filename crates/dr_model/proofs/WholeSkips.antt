@@ -7,7 +7,8 @@ use Rattle.dr_meaning.specs.declared.stage.Stage.{Stage}
 use Rattle.dr_outside.specs.Pairs.{Frame}
 use Rattle.dr_base.specs.Sides.{other}
 use Rattle.dr_outside.specs.BySide.{at, put}
-use Rattle.dr_meaning.specs.Stages.{stages, array_stage, recovery, wind_down, start_up, has, stage_at}
+use Rattle.dr_base.specs.Lists.{has}
+use Rattle.dr_meaning.specs.Stages.{stages, array_stage, recovery, wind_down, start_up, stage_at}
 use Rattle.dr_meaning.specs.Visits.{Visit, visits, all, is_excused}
 use Rattle.dr_meaning.specs.Runs.{Run, op, new, stages_of}
 use Rattle.dr_meaning.specs.Outcomes.{made_frame, FrameOutcome, stopped, PostOutcome, split_frame}

@@ -6,7 +6,8 @@ use Rattle.dr_meaning.specs.declared.stage.StageKind.{StageKind}
 use Rattle.dr_meaning.specs.declared.stage.Stage.{Stage}
 use Rattle.dr_outside.specs.Pairs.{Frame}
 use Rattle.dr_base.specs.Sides.{other, same_side}
-use Rattle.dr_meaning.specs.Stages.{stages, start_up, has}
+use Rattle.dr_base.specs.Lists.{has}
+use Rattle.dr_meaning.specs.Stages.{stages, start_up}
 use Rattle.dr_meaning.specs.Runs.{Run, number, op, new, stages_of}
 use Rattle.dr_meaning.specs.Outcomes.{made_frame}
 use Rattle.dr_meaning.specs.Reach.{ReachFrame, ReachPost}

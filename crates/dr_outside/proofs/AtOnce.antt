@@ -6,7 +6,8 @@ use Rattle.dr_outside.specs.declared.pair.Pair.{Pair}
 use Rattle.dr_outside.specs.declared.pair.Half.{Half}
 use Rattle.dr_outside.specs.declared.array.ArrayCall.{ArrayCall}
 use Rattle.dr_outside.specs.Pairs.{Drift, Made, PairStep, made, is_fit, Read, half, target}
-use Rattle.dr_outside.specs.Arrays.{SomeDone, EachStep, EachDrift, IsWrong, IsFirstUnfit, is_listed, has_part}
+use Rattle.dr_base.specs.Lists.{has}
+use Rattle.dr_outside.specs.Arrays.{SomeDone, EachStep, EachDrift, IsWrong, IsFirstUnfit, has_part}
 use Rattle.dr_outside.proofs.Drifts.{Drift-refl}
 
 -- a call that makes a pair at once
@@ -17,15 +18,15 @@ made_at_once call p q fit is = record { fit = fit; moment = p; before = Drift-re
 pub none_done : (call : ArrayCall) (list : List ℕ) (side : Side) (group : ℕ → ℕ) (old new : ℕ → Pair) → has_part call list old side ≡ true → EachDrift old new → SomeDone call list side group old new
 none_done call list side group old new part drift = record {
   done = λ _. false;
-  each = λ i. elim (is_listed list i) as (λ b. PairStep call (b && false) (old i) (new i)) [ true ↦ drift i | false ↦ drift i ];
+  each = λ i. elim (has list i) as (λ b. PairStep call (b && false) (old i) (new i)) [ true ↦ drift i | false ↦ drift i ];
   fit = λ i j a b. cc;
   part = part;
 }
 
 -- each listed pair made at once, and each other one left
-pub each_made : (call : ArrayCall) (list : List ℕ) (old new : ℕ → Pair) → ((i : ℕ) → is_listed list i ≡ true → is_fit call (old i) ≡ true) → ((i : ℕ) → new i ≡ (if is_listed list i then made call (old i) else old i)) → EachStep call (is_listed list) old new
+pub each_made : (call : ArrayCall) (list : List ℕ) (old new : ℕ → Pair) → ((i : ℕ) → has list i ≡ true → is_fit call (old i) ≡ true) → ((i : ℕ) → new i ≡ (if has list i then made call (old i) else old i)) → EachStep call (has list) old new
 each_made call list old new fit is i =
-    elim (cases_Bool (is_listed list i)) [
+    elim (cases_Bool (has list i)) [
       | inl l ↦ rw l (made_at_once call (old i) (new i) (fit i l) (rw l at (is i)))
       | inr l ↦ rw l (subst (λ (x : Pair). Drift (old i) x) (sym (rw l at (is i))) (Drift-refl (old i)))
     ]

@@ -6,7 +6,7 @@ use Rattle.dr_base.specs.Sides.{same_side}
 use Rattle.dr_outside.specs.declared.pair.Content.{Content}
 use Rattle.dr_outside.specs.declared.pair.Pair.{Pair}
 use Rattle.dr_outside.specs.BySide.{at}
-use Rattle.dr_outside.specs.Pairs.{is_live, is_target, Grows, Follows, Drift}
+use Rattle.dr_outside.specs.Pairs.{is_live, is_target, Grows, FollowsSource, Drift}
 
 -- the same content has grown
 pub grows_refl : (a b : Content) → b ≡ a → Grows a b
@@ -22,7 +22,7 @@ Drift-refl p = record {
   snapshot = refl;
   written = λ side w. grows_refl _ _ refl;
   replicated = λ side t. inl refl;
-  frozen = λ side w t. refl;
+  read_only = λ side w t. refl;
 }
 
 -- a source is no target, live or not
@@ -38,9 +38,9 @@ source_grows p q d = go (at p.source p.writable) refl
   where
     go : (b : Bool) → at p.source p.writable ≡ b → Grows (at p.source p.content) (at p.source q.content)
     go true w = d.written p.source w
-    go false w = grows_refl _ _ (d.frozen p.source w (source_is_no_target p.source (is_live p.link)))
+    go false w = grows_refl _ _ (d.read_only p.source w (source_is_no_target p.source (is_live p.link)))
 
-target_trans : (t0 t1 t2 s1 s2 : Content) → Grows s1 s2 → (t1 ≡ t0) ⊎ Follows t0 s1 t1 → (t2 ≡ t1) ⊎ Follows t1 s2 t2 → (t2 ≡ t0) ⊎ Follows t0 s2 t2
+target_trans : (t0 t1 t2 s1 s2 : Content) → Grows s1 s2 → (t1 ≡ t0) ⊎ FollowsSource t0 s1 t1 → (t2 ≡ t1) ⊎ FollowsSource t1 s2 t2 → (t2 ≡ t0) ⊎ FollowsSource t0 s2 t2
 target_trans t0 t1 t2 s1 s2 g (inl a) (inl b) = inl (b ∙ a)
 target_trans t0 t1 t2 s1 s2 g (inl a) (inr f) = inr (record { line = f.line; at_least = omega (arith, f.at_least, ap (λ c. c.writes) a); at_most = f.at_most })
 target_trans t0 t1 t2 s1 s2 g (inr f) (inl b) =
@@ -62,5 +62,5 @@ Drift-trans p q r d e =
           (rw (← s_same) (source_grows q r e))
           (d.replicated side t)
           (rw (← s_same) (e.replicated side (t_same side ∙ t)));
-      frozen = λ side w t. e.frozen side (w_same side ∙ w) (t_same side ∙ t) ∙ d.frozen side w t;
+      read_only = λ side w t. e.read_only side (w_same side ∙ w) (t_same side ∙ t) ∙ d.read_only side w t;
     }

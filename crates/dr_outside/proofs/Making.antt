@@ -4,14 +4,14 @@ use Rattle.std.proofs.lemmas.Bool.{cases_eq, eq-eqb, ne_eqb}
 use Rattle.std.specs.List.Sorted.{IsStrictlyIncreasing}
 use Rattle.dr_outside.specs.declared.pair.Pair.{Pair}
 use Rattle.dr_outside.specs.declared.array.ArrayCall.{ArrayCall}
-use Rattle.dr_outside.specs.Arrays.{is_listed}
+use Rattle.dr_base.specs.Lists.{has}
 use Rattle.dr_outside.specs.Pairs.{made}
 use Rattle.dr_outside.specs.PairLists.{pair_at, no_pair}
-use Rattle.dr_outside.proofs.Listed.{is_listed_more, not_yet}
+use Rattle.dr_outside.proofs.Listed.{has_more, not_yet}
 
 -- the pairs after these are made
 abbrev pub made_where : ArrayCall → List ℕ → List Pair → ℕ → Pair
-made_where call list was i = if is_listed list i then made call (pair_at was i) else pair_at was i
+made_where call list was i = if has list i then made call (pair_at was i) else pair_at was i
 
 or_true : (b : Bool) → (b || true) ≡ true
 or_true true = refl
@@ -28,9 +28,9 @@ made_more call list was now n rises l fits so_far i =
     elim (cases_eq i v) [
       | inl e ↦
           let now_v : pair_at now v ≡ pair_at was v = so_far v ∙ ap (λ b. if b then made call (pair_at was v) else pair_at was v) (not_yet list rises n l) in
-          let listed : is_listed (take (n + 1) list) v ≡ true = is_listed_more list n v l ∙ ap (λ b. is_listed (take n list) v || b) (eq-eqb v v refl) ∙ or_true _ in
+          let listed : has (take (n + 1) list) v ≡ true = has_more list n v l ∙ ap (λ b. has (take n list) v || b) (eq-eqb v v refl) ∙ or_true _ in
           rw e (get_or-set_same now v _ no_pair fits ∙ ap (made call) now_v ∙ sym (ap (λ b. if b then made call (pair_at was v) else pair_at was v) listed))
       | inr other ↦
-          let same : is_listed (take (n + 1) list) i ≡ is_listed (take n list) i = is_listed_more list n i l ∙ ap (λ b. is_listed (take n list) i || b) (ne_eqb v i (λ e. other (sym e))) ∙ or_false _ in
+          let same : has (take (n + 1) list) i ≡ has (take n list) i = has_more list n i l ∙ ap (λ b. has (take n list) i || b) (ne_eqb v i (λ e. other (sym e))) ∙ or_false _ in
           get_or-set_other now v i _ no_pair other ∙ so_far i ∙ ap (λ b. if b then made call (pair_at was i) else pair_at was i) (sym same)
     ]

@@ -3,6 +3,7 @@ use Rattle.std.specs.Prelude.{ℕ, ◌≡◌, ◌<◌, ◌≤◌, Bool, true, fa
 use Rattle.std.specs.List.{list_any}
 use Rattle.std.specs.List.Sorted.{IsStrictlyIncreasing}
 use Rattle.dr_base.specs.declared.side.Side.{Side}
+use Rattle.dr_base.specs.Lists.{has}
 use Rattle.dr_base.specs.Sides.{other}
 use Rattle.dr_base.specs.Causes.{Rose}
 use Rattle.dr_outside.specs.declared.pair.Pair.{Pair}
@@ -29,10 +30,6 @@ pub record IsPairList (count : ℕ) (list : List ℕ) : Type 0 where
   pub ascending : IsStrictlyIncreasing list
   pub below : (j : ℕ) → j < length list → slice_index list j < count
 
--- whether a list has this number
-abbrev pub is_listed : List ℕ → ℕ → Bool
-is_listed list i = list_any (λ k. k == i) list
-
 -- what holds after every call: the shape stays, counts don't fall, and a failed call raised its side's
 pub record ArrayCause {T : Type 0} (old new : ArrayState) (result : Result T ArrayFail) : Type 0 where
   pub count : new.count ≡ old.count
@@ -44,7 +41,7 @@ pub record ArrayCause {T : Type 0} (old new : ArrayState) (result : Result T Arr
 abbrev pub NamesListed : List ℕ → Result (Unit {0}) ArrayFail → Type 0
 NamesListed list (Ok _) = Unit {0}
 NamesListed list (Err (Failed side)) = Unit {0}
-NamesListed list (Err (Wrong k half)) = is_listed list k ≡ true
+NamesListed list (Err (Wrong k half)) = has list k ≡ true
 
 -- each pair is made or drifts, by this test
 abbrev pub EachStep : ArrayCall → (ℕ → Bool) → (ℕ → Pair) → (ℕ → Pair) → Type 0
@@ -56,9 +53,9 @@ EachDrift old new = (i : ℕ) → Drift (old i) (new i)
 
 -- k is the least pair of the list that isn't as the call needs it
 pub record IsFirstUnfit (call : ArrayCall) (list : List ℕ) (pair : ℕ → Pair) (k : ℕ) : Type 0 where
-  pub listed : is_listed list k ≡ true
+  pub listed : has list k ≡ true
   pub unfit : is_fit call (pair k) ≡ false
-  pub least : (j : ℕ) → is_listed list j ≡ true → j < k → is_fit call (pair j) ≡ true
+  pub least : (j : ℕ) → has list j ≡ true → j < k → is_fit call (pair j) ≡ true
 
 -- a refused call names the least such pair and its target's half, and each pair drifts
 pub record IsWrong (call : ArrayCall) (list : List ℕ) (old new : ℕ → Pair) (k : ℕ) (half : Half) : Type 0 where
@@ -73,13 +70,13 @@ has_part call list pair side = (length list == 0) || list_any (λ k. may_fail ca
 -- a failed call: each consistency group of the list is done or as it was, and none is done where a pair isn't as it must be
 pub record SomeDone (call : ArrayCall) (list : List ℕ) (side : Side) (group : ℕ → ℕ) (old new : ℕ → Pair) : Type 0 where
   pub done : ℕ → Bool
-  pub each : EachStep call (λ i. is_listed list i && done (group i)) old new
-  pub fit : (i j : ℕ) → is_listed list i ≡ true → done (group i) ≡ true → is_listed list j ≡ true → is_fit call (old j) ≡ true
+  pub each : EachStep call (λ i. has list i && done (group i)) old new
+  pub fit : (i j : ℕ) → has list i ≡ true → done (group i) ≡ true → has list j ≡ true → is_fit call (old j) ≡ true
   pub part : has_part call list old side ≡ true
 
 -- what a call leaves, by its answer
 abbrev pub ArrayStep : ArrayCall → List ℕ → ArrayState → ArrayState → Result (Unit {0}) ArrayFail → Type 0
-ArrayStep call list old new (Ok _) = EachStep call (is_listed list) old.pair new.pair
+ArrayStep call list old new (Ok _) = EachStep call (has list) old.pair new.pair
 ArrayStep call list old new (Err (Wrong k half)) = IsWrong call list old.pair new.pair k half
 ArrayStep call list old new (Err (Failed side)) = SomeDone call list side old.group old.pair new.pair
 

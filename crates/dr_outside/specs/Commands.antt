@@ -14,10 +14,10 @@ HasTokensOnce [] = Unit {0}
 HasTokensOnce (kept ∷ rest) = (code_of rest kept.token ≡ None) × HasTokensOnce rest
 
 -- one more code is kept, with what its call was given
-abbrev pub Keeps : Option Side → ℕ → List ℕ → List Kept → List Kept → ℕ → Type 0
-Keeps side token name old new code = new ≡ old ++ record { token = token; code = code; name = name; side = side } ∷ []
+abbrev pub KeepsOneMore : Option Side → ℕ → List ℕ → List Kept → List Kept → ℕ → Type 0
+KeepsOneMore side token name old new code = new ≡ old ++ record { token = token; code = code; name = name; side = side } ∷ []
 
 -- a command ran now, and no code was kept for its token
 pub record RunsOnce (side : Option Side) (token : ℕ) (name : List ℕ) (old new : List Kept) (code : ℕ) : Type 0 where
   pub first : code_of old token ≡ None
-  pub kept : Keeps side token name old new code
+  pub kept : KeepsOneMore side token name old new code

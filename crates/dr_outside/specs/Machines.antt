@@ -46,24 +46,24 @@ is_ready_for Unregister (On x) = false
 is_ready_for Unregister (Ready x) = false
 
 -- a post in another state with the same placement; a placeholder stays one
-abbrev pub turned : (Placed → Post) → Post → Post
-turned to Placeholder = Placeholder
-turned to (Off x) = to x
-turned to (On x) = to x
-turned to (Ready x) = to x
+abbrev pub with_power : (Placed → Post) → Post → Post
+with_power to Placeholder = Placeholder
+with_power to (Off x) = to x
+with_power to (On x) = to x
+with_power to (Ready x) = to x
 
 -- what a call makes of a post that is as it needs it
 abbrev pub post_after : PortCall → Post → Post
 post_after (Register placed) post = Off placed
-post_after Start post = turned Ready post
-post_after Stop post = turned Off post
+post_after Start post = with_power Ready post
+post_after Stop post = with_power Off post
 post_after Unregister post = Placeholder
 
 -- what a failed call may leave of such a post: the state before or after it; a start leaves Off, On or Ready
 abbrev pub Left : PortCall → Post → Post → Type 0
 Left (Register placed) old new = (new ≡ old) ⊎ (new ≡ Off placed)
-Left Start old new = (new ≡ turned Off old) ⊎ ((new ≡ turned On old) ⊎ (new ≡ turned Ready old))
-Left Stop old new = (new ≡ old) ⊎ (new ≡ turned Off old)
+Left Start old new = (new ≡ with_power Off old) ⊎ ((new ≡ with_power On old) ⊎ (new ≡ with_power Ready old))
+Left Stop old new = (new ≡ old) ⊎ (new ≡ with_power Off old)
 Left Unregister old new = (new ≡ old) ⊎ (new ≡ Placeholder)
 
 -- this side's post changes to one that has P, and nothing else changes

@@ -49,7 +49,7 @@ pub record Grows (old new : Content) : Type 0 where
   pub writes : old.writes ≤ new.writes
 
 -- a content of the source's line, with at least the writes that the target had and at most those that the source has
-pub record Follows (old source new : Content) : Type 0 where
+pub record FollowsSource (old source new : Content) : Type 0 where
   pub line : new.line ≡ source.line
   pub at_least : old.writes ≤ new.writes
   pub at_most : new.writes ≤ source.writes
@@ -59,8 +59,8 @@ pub record Drift (old new : Pair) : Type 0 where
   pub frame : frame_of new ≡ frame_of old
   pub snapshot : new.snapshot ≡ old.snapshot
   pub written : (side : Side) → at side old.writable ≡ true → Grows (at side old.content) (at side new.content)
-  pub replicated : (side : Side) → is_target side (frame_of old) ≡ true → (at side new.content ≡ at side old.content) ⊎ Follows (at side old.content) (at old.source new.content) (at side new.content)
-  pub frozen : (side : Side) → at side old.writable ≡ false → is_target side (frame_of old) ≡ false → at side new.content ≡ at side old.content
+  pub replicated : (side : Side) → is_target side (frame_of old) ≡ true → (at side new.content ≡ at side old.content) ⊎ FollowsSource (at side old.content) (at old.source new.content) (at side new.content)
+  pub read_only : (side : Side) → at side old.writable ≡ false → is_target side (frame_of old) ≡ false → at side new.content ≡ at side old.content
 
 -- each pair must be so for the call
 abbrev pub is_fit : ArrayCall → Pair → Bool

@@ -13,7 +13,8 @@ use Rattle.dr_outside.specs.declared.array.ArrayFail.TheVariants.{Failed, Wrong}
 use Rattle.dr_outside.specs.BySide.{at, only}
 use Rattle.dr_outside.specs.Counts.{one_more_at}
 use Rattle.dr_outside.specs.Pairs.{target, made, half}
-use Rattle.dr_outside.specs.Arrays.{ArrayState, IsLeastOfClass, is_listed, has_part}
+use Rattle.dr_base.specs.Lists.{has}
+use Rattle.dr_outside.specs.Arrays.{ArrayState, IsLeastOfClass, has_part}
 use Rattle.dr_outside.specs.PairLists.{pair_at}
 
 -- its pairs, the calls on lists so far, the calls that are to fail and at which side, and its faults
@@ -53,7 +54,7 @@ side_to_fail number can_answer (fail ∷ rest) = if (fail.0 == number) && can_an
 
 -- what a call that isn't to fail does: each listed pair is made and no other changes, or a pair is shown as its target has it and none changes
 abbrev pub AtOnce : ArrayCall → List ℕ → List Pair → List Pair → Result (Unit {0}) ArrayFail → Type 0
-AtOnce call list old new (Ok _) = (i : ℕ) → pair_at new i ≡ (if is_listed list i then made call (pair_at old i) else pair_at old i)
+AtOnce call list old new (Ok _) = (i : ℕ) → pair_at new i ≡ (if has list i then made call (pair_at old i) else pair_at old i)
 AtOnce call list old new (Err (Wrong k seen)) = (new ≡ old) × (seen ≡ half (target (pair_at old k)) (pair_at old k))
 AtOnce call list old new (Err (Failed side)) = ⊥
 

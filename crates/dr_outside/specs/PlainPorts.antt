@@ -12,7 +12,7 @@ use Rattle.dr_outside.specs.declared.machine.PortFail.TheVariants.{Failed, Wrong
 use Rattle.dr_outside.specs.BySide.{at}
 use Rattle.dr_outside.specs.Counts.{one_more_at}
 use Rattle.dr_outside.specs.Commands.{code_of}
-use Rattle.dr_outside.specs.Arrays.{is_listed}
+use Rattle.dr_base.specs.Lists.{has}
 use Rattle.dr_outside.specs.Machines.{PortState}
 
 -- its posts, the codes it keeps, the calls so far other than readings, the calls that are to fail, and its faults
@@ -44,7 +44,7 @@ state_of plain = record { post = plain.post; kept = plain.kept; faults = λ side
 
 -- whether the next call is to fail
 abbrev pub is_to_fail : PlainPortState → Bool
-is_to_fail plain = is_listed plain.fails (one_more plain.calls)
+is_to_fail plain = has plain.fails (one_more plain.calls)
 
 -- one more call was counted
 pub record Counted (old new : PlainPortState) : Type 0 where

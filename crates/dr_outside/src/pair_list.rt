@@ -1,6 +1,7 @@
 ghost use Rattle.std.specs.Prelude.{◌≡◌, ◌↔◌, ℕ, ◌<◌, true, IsTrue, length, MatchOption, if◌then◌else◌};
 ghost use Rattle.dr_outside.specs.Pairs.{is_fit, made, half, target};
-ghost use Rattle.dr_outside.specs.Arrays.{is_listed, IsPairList, IsFirstUnfit};
+ghost use Rattle.dr_base.specs.Lists.{has};
+ghost use Rattle.dr_outside.specs.Arrays.{IsPairList, IsFirstUnfit};
 ghost use Rattle.dr_outside.specs.PairLists.{pair_at};
 
 use crate::{ArrayCall, Half, Pair};
@@ -21,7 +22,7 @@ pub fn is_pair_list(count: u32, list: &[u32]) -> bool
 pub fn first_unfit(call: ArrayCall, pairs: &[Pair], list: &[u32]) -> Option<u32>
     requires { IsPairList (length pairs.now) list.now }
     ensures { MatchOption result
-        ((j : ℕ) → is_listed list.now j ≡ true → is_fit call (pair_at pairs.now j) ≡ true)
+        ((j : ℕ) → has list.now j ≡ true → is_fit call (pair_at pairs.now j) ≡ true)
         (λ k. IsFirstUnfit call list.now (pair_at pairs.now) k) }
 {
     for k in list {
@@ -36,7 +37,7 @@ pub fn first_unfit(call: ArrayCall, pairs: &[Pair], list: &[u32]) -> Option<u32>
 pub fn make_all(call: ArrayCall, pairs: &mut [Pair], list: &[u32])
     requires { IsPairList (length pairs.old) list.now }
     ensures { (i : ℕ) → pair_at pairs.new i ≡
-        (if is_listed list.now i then made call (pair_at pairs.old i) else pair_at pairs.old i) }
+        (if has list.now i then made call (pair_at pairs.old i) else pair_at pairs.old i) }
 {
     for k in list {
         let place = *k as usize;

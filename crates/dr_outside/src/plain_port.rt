@@ -7,7 +7,7 @@ ghost use Rattle.dr_base.specs.Causes.{Rose};
 ghost use Rattle.dr_outside.specs.BySide.{at};
 ghost use Rattle.dr_outside.specs.Counts.{one_more_at};
 ghost use Rattle.dr_outside.specs.Commands.{code_of};
-ghost use Rattle.dr_outside.specs.Arrays.{is_listed};
+ghost use Rattle.dr_base.specs.Lists.{has};
 ghost use Rattle.dr_outside.specs.Machines.{PortStep, PortRead, PortCause, RanRead, CommandStep, NeverRan, NeverWrong};
 ghost use Rattle.dr_outside.specs.PlainPorts.{opening_port, state_of, Counted, is_to_fail, CallEnds, CommandEnds};
 
@@ -17,7 +17,7 @@ use std::marker::Model;
 
 // Whether the call of this number is to fail. If so, a fault of this side is counted.
 fn fails_now(fails: &[u64], number: u64, side: Side, faults: &mut Sides<u64>) -> bool
-    ensures listed { result ≡ is_listed fails.now number }
+    ensures listed { result ≡ has fails.now number }
     ensures counted { faults.new ≡ (if result then one_more_at side faults.old else faults.old) }
     ensures rose { IsTrue result → Rose (at side faults.old) (at side faults.new) }
     ensures later { (s : Side) → at s faults.old ≤ at s faults.new }

@@ -12,7 +12,7 @@ use Rattle.dr_inventory.specs.declared.estate.PlanMachineRow.{PlanMachineRow}
 use Rattle.dr_inventory.specs.declared.estate.PlanRow.{PlanRow}
 use Rattle.dr_inventory.specs.declared.estate.Estate.{Estate}
 use Rattle.dr_inventory.specs.Names.{first, place, number}
-use Rattle.dr_inventory.specs.Sound.{IsSound, AllBelow}
+use Rattle.dr_inventory.specs.Sound.{IsSoundEstate, AllBelow}
 use Rattle.dr_inventory.proofs.Empty.{map_empty, kept_none, kept_rest}
 use Rattle.dr_inventory.proofs.PlaceLaws.{place_within}
 use Rattle.dr_inventory.specs.declared.members.Members.{Members}
@@ -38,7 +38,7 @@ machines_within estate members are = λ k d within k' d' within'.
     let machine = ((are.machines.each k row (slice_get-get_or members.machines k d within)).exactly (get_or row k' d')).0 (Contains-get_or row k' d' within') in
     slice_get_within estate.machines (get_or row k' d') machine.row machine.found
 
-pub pairs_within : (estate : Estate) (members : Members) → IsSound estate → AreMembersOf estate members → All (AllBelow (length estate.devices)) members.pairs
+pub pairs_within : (estate : Estate) (members : Members) → IsSoundEstate estate → AreMembersOf estate members → All (AllBelow (length estate.devices)) members.pairs
 pairs_within estate members sound are = λ k d within k' d' within'.
     let row = get_or members.pairs k d in
     let pair = ((are.pairs.each k row (slice_get-get_or members.pairs k d within)).exactly (get_or row k' d')).0 (Contains-get_or row k' d' within') in

@@ -178,7 +178,7 @@ each_machine plan ordered m listed =
           (flat_to (wave_at plan.machines p) (depths_in plan.machines) d wave (in_range (above (map (λ x. x.depth) plan.machines)) d deep) (wave_there p d m.machine ks has));
       same_priority = refl;
       same_depth = refl;
-      has = has;
+      of_wave = has;
     }
 
 pairs_append : {X : Type 0} (R : X → X → Type 0) (xs ys : List X) → AllPairs R xs → AllPairs R ys → ((x y : X) → Contains xs x → Contains ys y → R x y) → AllPairs R (xs ++ ys)

@@ -50,7 +50,7 @@ pub record HasIn (list : List Wave) (priority depth machine : ℕ) : Type 0 wher
   pub listed : Contains list wave
   pub same_priority : wave.priority ≡ priority
   pub same_depth : wave.depth ≡ depth
-  pub has : Contains wave.machines machine
+  pub of_wave : Contains wave.machines machine
 
 -- each wave before the next, each a wave of the plan, and each machine in the wave of its priority and depth
 pub record AreWaves (plan : Plan) (list : List Wave) : Type 0 where

@@ -7,7 +7,7 @@ ghost use Rattle.dr_plan.specs.Cycles.{DependsOn, IsGraph, IsOnCycle};
 ghost use Rattle.dr_plan.specs.Walks.{LeadsTo, IsTurned, IsFinishOrder, HasOther, IsDecided};
 
 use crate::dependents::dependents_of;
-use crate::walk::{finish_order, visit};
+use crate::depth_first::{finish_order, visit};
 use dr_base::Rows;
 use dr_groups::marks::{mark_all, marked_numbers, no_marks};
 use std::alloc::{AllocError, Global};

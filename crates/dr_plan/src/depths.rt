@@ -9,7 +9,7 @@ ghost use Rattle.dr_plan.specs.Waves.{above};
 ghost use Rattle.dr_plan.specs.Passing.{IsPassing};
 ghost use Rattle.dr_plan.specs.Plans.{AreDepths};
 
-use crate::walk::finish_order;
+use crate::depth_first::finish_order;
 use dr_base::Rows;
 use dr_groups::marks::no_marks;
 use std::alloc::{AllocError, Global};

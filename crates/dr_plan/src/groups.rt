@@ -1,7 +1,7 @@
 //! The protection groups of a plan.
 
 ghost use Rattle.std.specs.Prelude.{◌≡◌, IfOk, OnOk, IfErr};
-ghost use Rattle.dr_inventory.specs.Sound.{IsSound};
+ghost use Rattle.dr_inventory.specs.Sound.{IsSoundEstate};
 ghost use Rattle.dr_inventory.specs.declared.members.Members.{Members as AnyMembers};
 ghost use Rattle.dr_plan.specs.Rows.{group_numbers};
 ghost use Rattle.dr_plan.specs.Lookups.{StopsBy, AreGroupsRight};
@@ -19,7 +19,7 @@ pub fn read_groups(
     estate: &Estate,
     row: &PlanRow,
 ) -> Result<Vec<u32>, Stop<PlanFault>>
-    requires { IsSound estate.now }
+    requires { IsSoundEstate estate.now }
 
     ensures numbers { IfOk result (λ numbers. numbers.items ≡ group_numbers estate.now row.now) }
     ensures right { OnOk result (AreGroupsRight estate.now row.now) }

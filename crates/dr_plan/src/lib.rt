@@ -3,6 +3,7 @@
 
 mod cycles;
 mod dependents;
+mod depth_first;
 mod depths;
 mod groups;
 pub mod laws;
@@ -10,12 +11,11 @@ mod machines;
 mod marks;
 mod names;
 mod plan;
+mod plans;
 mod positions;
-mod reading;
-mod walk;
 mod wave_lists;
 
 pub use dr_base::{Callout, PlanFault};
 pub use plan::{Plan, PlanMachine, Step, Wave};
-pub use reading::read_plan;
+pub use plans::read_plan;
 pub use wave_lists::waves;

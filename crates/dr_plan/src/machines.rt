@@ -4,7 +4,7 @@ ghost use Rattle.std.specs.Prelude.{◌≡◌, not, find, map, flat_map, length,
 ghost use Rattle.std.specs.Option.{option_copied, option_map};
 ghost use Rattle.std.specs.Ordering.{int_eq};
 ghost use Rattle.dr_inventory.specs.Names.{first};
-ghost use Rattle.dr_inventory.specs.Sound.{IsSound};
+ghost use Rattle.dr_inventory.specs.Sound.{IsSoundEstate};
 ghost use Rattle.dr_inventory.specs.Places.{AllFit, number_in};
 ghost use Rattle.dr_groups.specs.Groups.{AreMembersOf};
 ghost use Rattle.dr_plan.specs.Rows.{group_numbers, row_of, priority_of, is_priority, natural, wanted_after};
@@ -236,7 +236,7 @@ pub fn read_machines(
     row: &PlanRow,
     groups: &[u32],
 ) -> Result<Found, Stop<PlanFault>>
-    requires sound { IsSound estate.now }
+    requires sound { IsSoundEstate estate.now }
     requires members { AreMembersOf estate.now members.now }
     requires groups { groups.now ≡ group_numbers estate.now row.now }
     requires right { AreGroupsRight estate.now row.now }

@@ -3,8 +3,8 @@ ghost use Rattle.dr_records.specs.declared.record_fault.RecordFault.TheVariants.
 ghost use Rattle.dr_records.specs.declared.records.Record.{Record};
 ghost use Rattle.dr_records.specs.Spelling.{spelling, HasShortLists, IsRecord, IsFirstFault, GivesRecord, GivesFault};
 
-use crate::reading::{Stop, record_of};
 use crate::record_fault::RecordFault;
+use crate::record_fields::{Stop, record_of};
 use crate::records::Record;
 use std::alloc::Global;
 

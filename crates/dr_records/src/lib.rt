@@ -3,8 +3,8 @@
 
 mod decoding;
 pub mod laws;
-mod reading;
 mod record_fault;
+mod record_fields;
 mod records;
 mod writing;
 

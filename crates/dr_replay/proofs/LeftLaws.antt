@@ -3,7 +3,8 @@ use Rattle.std.specs.Prelude.{◌≡◌, ℕ, Bool, true, false, IsTrue, ◌↔�
 use Rattle.std.proofs.Common.{refl, sym, ◌∙◌, subst}
 use Rattle.std.proofs.lemmas.Bool.{false≢true}
 use Rattle.dr_meaning.specs.declared.stage.StageKind.{StageKind}
-use Rattle.dr_meaning.specs.Stages.{has, stage_at}
+use Rattle.dr_base.specs.Lists.{has}
+use Rattle.dr_meaning.specs.Stages.{stage_at}
 use Rattle.dr_meaning.specs.Visits.{Visit, visits, is_excused}
 use Rattle.dr_meaning.specs.Runs.{Run, stages_of}
 use Rattle.dr_meaning.specs.Meaning.{is_left, is_wave_of}

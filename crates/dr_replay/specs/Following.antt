@@ -3,7 +3,8 @@ use Rattle.std.specs.Prelude.{◌≡◌, ℕ, Bool, true, false, IsTrue, List}
 use Rattle.std.specs.List.{AllByRecursion}
 use Rattle.dr_meaning.specs.Types.{Record}
 use Rattle.dr_meaning.specs.declared.stage.StageKind.{StageKind}
-use Rattle.dr_meaning.specs.Stages.{has, stage_at}
+use Rattle.dr_base.specs.Lists.{has}
+use Rattle.dr_meaning.specs.Stages.{stage_at}
 use Rattle.dr_meaning.specs.Visits.{is_excused, last_visit}
 use Rattle.dr_meaning.specs.Runs.{Run, stages_of}
 use Rattle.dr_meaning.specs.Meaning.{is_left}

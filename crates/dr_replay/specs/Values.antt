@@ -3,9 +3,9 @@ use Rattle.std.specs.Prelude.{List, map, reverse, option_map}
 use Rattle.std.specs.Borrow.{Bor}
 use Rattle.dr_meaning.specs.Types.{Record, Estate, Plan}
 use Rattle.dr_meaning.specs.Visits.{Visit}
-use Rattle.dr_meaning.specs.Runs.{Setting, Run, Taken}
+use Rattle.dr_meaning.specs.Runs.{Setting, Run, TakenOver}
 use Rattle.dr_replay.specs.declared.runs.Run.{Run as RunValue}
-use Rattle.dr_replay.specs.declared.runs.Taken.{Taken as TakenValue}
+use Rattle.dr_replay.specs.declared.runs.TakenOver.{TakenOver as TakenValue}
 use Rattle.dr_replay.specs.declared.visiting.Visit.{Visit as VisitValue}
 
 -- an estate and its plans as what is in force
@@ -17,7 +17,7 @@ abbrev pub newest_first : List (Bor Record) → List Record
 newest_first log = reverse (map (λ r. r.now) log)
 
 -- a run that was taken over
-abbrev pub taken_of : TakenValue → Taken
+abbrev pub taken_of : TakenValue → TakenOver
 taken_of taken = record { start = taken.start.now; plan = taken.plan.now; log = newest_first taken.log.items }
 
 -- a run

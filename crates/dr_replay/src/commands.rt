@@ -5,7 +5,7 @@ ghost use Rattle.std.specs.Option.{option_copied};
 ghost use Rattle.std.specs.List.{list_any};
 ghost use Rattle.dr_meaning.specs.Types.{Record as RecordValue};
 ghost use Rattle.dr_meaning.specs.Runs.{root};
-ghost use Rattle.dr_meaning.specs.Lawful.{is_answer, is_answered, is_code, is_coded, token_of, tokens_from, tokens as tokens_in, plan_machine, dependencies, last_aside};
+ghost use Rattle.dr_meaning.specs.Lawful.{is_answer, is_answered, is_code, is_coded, token_of, tokens_from, tokens as tokens_in, machine_in_plan, dependencies, last_aside};
 ghost use Rattle.dr_replay.specs.Values.{run_of, newest_first};
 
 use crate::Run;
@@ -15,8 +15,8 @@ use dr_records::Record;
 use std::alloc::Global;
 
 /// What a plan says of a machine.
-pub fn plan_machine(plan: &Plan, machine: u32) -> Option<&PlanMachine>
-    ensures { option_copied result ≡ plan_machine plan.now machine }
+pub fn machine_in_plan(plan: &Plan, machine: u32) -> Option<&PlanMachine>
+    ensures { option_copied result ≡ machine_in_plan plan.now machine }
 {
     plan.machines
         .as_slice()
@@ -92,7 +92,7 @@ impl<'a> Run<'a> {
     pub fn tokens(&self, alloc: Global, machine: u32) -> Result<Vec<u64>, NoMemory>
         ensures { IfOk result (λ tokens. tokens.items ≡ tokens_in (run_of self.now) machine) }
     {
-        match plan_machine(self.plan, machine) {
+        match machine_in_plan(self.plan, machine) {
             Some(row) => tokens_of(alloc, self.root(), &row.commands),
             None => Ok(Vec::new(alloc)),
         }
@@ -102,7 +102,7 @@ impl<'a> Run<'a> {
     pub fn dependencies(&self, machine: u32) -> &[u32]
         ensures { result.now ≡ dependencies (run_of self.now) machine }
     {
-        match plan_machine(self.plan, machine) {
+        match machine_in_plan(self.plan, machine) {
             Some(row) => row.after.as_slice(),
             None => &[],
         }

@@ -2,7 +2,7 @@
 
 ghost use Rattle.std.specs.Prelude.{◌≡◌, ◌==◌, List, [], reverse, map, slice_get};
 ghost use Rattle.dr_meaning.specs.Types.{Plan as PlanValue};
-ghost use Rattle.dr_meaning.specs.Stages.{has};
+ghost use Rattle.dr_base.specs.Lists.{has};
 ghost use Rattle.dr_meaning.specs.Runs.{holds, is_finish, is_finished, is_open, finish, named_side, group_state, protected_side};
 ghost use Rattle.dr_replay.specs.Values.{run_of, runs_told, in_force};
 

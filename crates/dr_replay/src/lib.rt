@@ -12,11 +12,11 @@ mod starts;
 mod visiting;
 mod walk;
 
-pub use commands::{plan_machine, token_of};
+pub use commands::{machine_in_plan, token_of};
 pub use groups::{group_state, has, protected_side};
 pub use lawful::may_follow;
 pub use replaying::{first_unlawful, may_come};
-pub use runs::{Run, Taken, add_record, replay, run_at};
+pub use runs::{Run, TakenOver, add_record, replay, run_at};
 pub use starts::may_start;
 pub use visiting::{Visit, visits};
 pub use walk::{Walk, same_kind};

@@ -23,14 +23,14 @@ pub struct Run<'a> {
     /// Its records after the Start, oldest first.
     pub log: Vec<&'a Record>,
     /// The run that it took over, as that stood then.
-    pub took: Option<Taken<'a>>,
+    pub took: Option<TakenOver<'a>>,
     /// The run that took it over, or 0.
     pub by: u32,
 }
 
 /// A run as it stood when another took it over.
 #[derive(Drop)]
-pub struct Taken<'a> {
+pub struct TakenOver<'a> {
     pub start: &'a StartRow,
     pub plan: &'a Plan,
     pub log: Vec<&'a Record>,
@@ -92,12 +92,12 @@ fn take_over_all(runs: &mut Vec<Run>, row: &StartRow)
 }
 
 // The run as one that is taken over now.
-fn as_taken<'a>(alloc: Global, run: &Run<'a>) -> Result<Taken<'a>, NoMemory>
+fn as_taken<'a>(alloc: Global, run: &Run<'a>) -> Result<TakenOver<'a>, NoMemory>
     ensures { IfOk result (λ taken. taken_of taken ≡ as_taken (run_of run.now)) }
 {
     let mut log = Vec::new(alloc);
     log.extend_from_slice(&run.log)?;
-    Ok(Taken {
+    Ok(TakenOver {
         start: run.start,
         plan: run.plan,
         log,
@@ -118,7 +118,11 @@ pub fn run_at<'r, 'a>(runs: &'r [Run<'a>], number: u32) -> Option<&'r Run<'a>>
 }
 
 // The run of this number as one that is taken over now, where there is one.
-fn taken_at<'a>(alloc: Global, runs: &[Run<'a>], number: u32) -> Result<Option<Taken<'a>>, NoMemory>
+fn taken_at<'a>(
+    alloc: Global,
+    runs: &[Run<'a>],
+    number: u32,
+) -> Result<Option<TakenOver<'a>>, NoMemory>
     ensures { IfOk result (λ taken. option_map taken_of taken ≡ option_map as_taken (run_at number (runs_told runs.now))) }
 {
     match run_at(runs, number) {

@@ -22,10 +22,10 @@ use Rattle.dr_base.specs.declared.refusal.Refusal.TheVariants as refusals
 use Rattle.dr_base.specs.declared.request_fault.RequestFault.{RequestFault}
 use Rattle.dr_base.specs.declared.request_fault.RequestFault.TheVariants as request_faults
 use Rattle.dr_inventory.specs.declared.estate.Estate.{Estate}
-use Rattle.dr_inventory.specs.Sound.{IsSound}
+use Rattle.dr_inventory.specs.Sound.{IsSoundEstate}
 use Rattle.dr_report.specs.Texts.{answer_text_of, estate_fault_text, group_fault_text, plan_fault_text, refusal_text, request_fault_text, machine_names, pair_names, datastore_names, group_names, plan_names}
 use Rattle.dr_report.specs.Conditions.{HoldsNumbersOf}
-use Rattle.dr_report.specs.Values.{HasNames, IsAnswer, IsEstateFault, IsPlanFault}
+use Rattle.dr_report.specs.Values.{HasNames, IsToldAnswer, IsEstateFault, IsPlanFault}
 use Rattle.dr_report.proofs.WordLaws.{differ}
 use Rattle.dr_report.proofs.FieldLaws.{Naming, one, three, number, wide, numbered, fixed, side, kind, join_two, join_three, other}
 use Rattle.dr_report.proofs.EstateFaultLaws.{same_estate_fault}
@@ -73,7 +73,7 @@ estate_key (estate_faults.DeviceTwice x) p = refl
 estate_key (estate_faults.Limit k n) p = refl
 estate_key estate_faults.NoMemory p = absurd p
 
-group_key : (estate : Option Estate) (f : GroupFault) → IsAnswer (answers.Groups f) → key (group_fault_text estate f) ≡ codes "2 G"
+group_key : (estate : Option Estate) (f : GroupFault) → IsToldAnswer (answers.Groups f) → key (group_fault_text estate f) ≡ codes "2 G"
 group_key estate (group_faults.NotClosed a b c) p = refl
 group_key estate (group_faults.InTwo a b c) p = refl
 group_key estate group_faults.NoMemory p = absurd p
@@ -104,7 +104,7 @@ refusal_key estate (refusals.NotAmended k n) = refl
 refusal_key estate (refusals.NoSlot k m n) = refl
 refusal_key estate (refusals.JournalFull m n) = refl
 
-request_key : (f : RequestFault) → IsAnswer (answers.Request f) → key (request_fault_text f) ≡ codes "2 H"
+request_key : (f : RequestFault) → IsToldAnswer (answers.Request f) → key (request_fault_text f) ≡ codes "2 H"
 request_key request_faults.H1 p = refl
 request_key request_faults.H2 p = refl
 request_key request_faults.H3 p = refl
@@ -114,7 +114,7 @@ request_key request_faults.ReadFault p = absurd p
 request_key request_faults.NoMemory p = absurd p
 
 -- an answer's line has the bytes of its kind
-pub key_told : (estate : Option Estate) (a : Answer) → IsAnswer a → key (answer_text_of estate a) ≡ key_of a
+pub key_told : (estate : Option Estate) (a : Answer) → IsToldAnswer a → key (answer_text_of estate a) ≡ key_of a
 key_told estate (answers.Estate f) p = estate_key f p
 key_told estate (answers.Groups f) p = group_key estate f p
 key_told estate (answers.Plan n f) p = plan_key estate n f p.1
@@ -127,7 +127,7 @@ key_told estate (answers.Foreign (things.Machine x) m n) p = refl
 key_told estate a p = refl
 
 -- two refused requests with one line are equal
-same_request : (f g : RequestFault) → IsAnswer (answers.Request f) → IsAnswer (answers.Request g) → request_fault_text f ≡ request_fault_text g → f ≡ g
+same_request : (f g : RequestFault) → IsToldAnswer (answers.Request f) → IsToldAnswer (answers.Request g) → request_fault_text f ≡ request_fault_text g → f ≡ g
 same_request request_faults.H1 request_faults.H1 p q e = refl
 same_request request_faults.H1 g p q e = absurd (other (codes "2 H1") (request_fault_text request_faults.H1) (request_fault_text g) refl refl e)
 same_request request_faults.H2 request_faults.H2 p q e = refl
@@ -158,7 +158,7 @@ record Namings (estate : Option Estate) : Type 0 where
   plans : Naming (plan_names estate)
 
 -- two objects with their codes, which are told alike, are equal
-same_foreign : (estate : Option Estate) → Namings estate → (x y : Thing) (m n v w : ℕ) → HoldsNumbersOf estate (answers.Foreign x m n) → HoldsNumbersOf estate (answers.Foreign y v w) → IsAnswer (answers.Foreign x m n) → IsAnswer (answers.Foreign y v w) → answer_text_of estate (answers.Foreign x m n) ≡ answer_text_of estate (answers.Foreign y v w) → answers.Foreign x m n ≡ answers.Foreign y v w
+same_foreign : (estate : Option Estate) → Namings estate → (x y : Thing) (m n v w : ℕ) → HoldsNumbersOf estate (answers.Foreign x m n) → HoldsNumbersOf estate (answers.Foreign y v w) → IsToldAnswer (answers.Foreign x m n) → IsToldAnswer (answers.Foreign y v w) → answer_text_of estate (answers.Foreign x m n) ≡ answer_text_of estate (answers.Foreign y v w) → answers.Foreign x m n ≡ answers.Foreign y v w
 same_foreign estate names (things.Pair x) (things.Pair y) m n v w h k p q e =
     let s = three (codes "13 foreign pair") (numbered (pair_names estate) names.pairs x y h k) (number m v p.0 q.0) (number n w p.1 q.1) e in
     join_three (λ a b c. answers.Foreign (things.Pair a) b c) s.0 s.1 s.2
@@ -175,7 +175,7 @@ same_unmapped estate names u v h k e =
     join_three make s.0 s.1 s.2
 
 -- two answers of one kind with one line are equal
-same_answer : (estate : Option Estate) → Namings estate → (a b : Answer) → HoldsNumbersOf estate a → HoldsNumbersOf estate b → IsAnswer a → IsAnswer b → key_of a ≡ key_of b → answer_text_of estate a ≡ answer_text_of estate b → a ≡ b
+same_answer : (estate : Option Estate) → Namings estate → (a b : Answer) → HoldsNumbersOf estate a → HoldsNumbersOf estate b → IsToldAnswer a → IsToldAnswer b → key_of a ≡ key_of b → answer_text_of estate a ≡ answer_text_of estate b → a ≡ b
 same_answer estate names (answers.Done n) (answers.Done n') h k p q same e = ap answers.Done (one (codes "0 done run") (number n n' p q) e)
 same_answer estate names answers.Loaded answers.Loaded h k p q same e = refl
 same_answer estate names answers.Replied answers.Replied h k p q same e = refl
@@ -201,7 +201,7 @@ same_answer estate names (answers.JournalDamaged n) (answers.JournalDamaged n') 
 same_answer estate names (answers.Foreign t m n) (answers.Foreign t' m' n') h k p q same e = same_foreign estate names t t' m n m' n' h k p q e
 same_answer estate names a b h k p q same e = absurd (differ (key_of a) (key_of b) refl same)
 
-namings : (estate : Option Estate) → IfSome estate IsSound → HasNames estate → Namings estate
+namings : (estate : Option Estate) → IfSome estate IsSoundEstate → HasNames estate → Namings estate
 namings None sound names = record {
   machines = record { distinct = none_distinct; each = names.machines };
   pairs = record { distinct = none_distinct; each = names.pairs };
@@ -218,5 +218,5 @@ namings (Some estate) sound names = record {
 }
 
 -- two answers with one line are equal
-pub told_apart : (estate : Option Estate) (a b : Answer) → IfSome estate IsSound → HasNames estate → HoldsNumbersOf estate a → HoldsNumbersOf estate b → IsAnswer a → IsAnswer b → answer_text_of estate a ≡ answer_text_of estate b → a ≡ b
+pub told_apart : (estate : Option Estate) (a b : Answer) → IfSome estate IsSoundEstate → HasNames estate → HoldsNumbersOf estate a → HoldsNumbersOf estate b → IsToldAnswer a → IsToldAnswer b → answer_text_of estate a ≡ answer_text_of estate b → a ≡ b
 told_apart estate a b sound names h k p q e = same_answer estate (namings estate sound names) a b h k p q (sym (key_told estate a p) ∙ ap key e ∙ key_told estate b q) e

@@ -8,14 +8,14 @@ use Rattle.dr_base.specs.declared.answer.Answer.TheVariants as answers
 use Rattle.dr_base.specs.declared.placement.Callout.{Callout}
 use Rattle.dr_base.specs.declared.placement.Callout.TheVariants.{Command, Prompt}
 use Rattle.dr_inventory.specs.declared.estate.Estate.{Estate}
-use Rattle.dr_inventory.specs.Sound.{IsSound}
+use Rattle.dr_inventory.specs.Sound.{IsSoundEstate}
 use Rattle.dr_plan.specs.declared.plan.Step.{Step}
 use Rattle.dr_plan.specs.declared.plan.Plan.{Plan}
 use Rattle.dr_plan.specs.Waves.{priorities, waves_of}
 use Rattle.dr_report.specs.Texts.{answer_text_of}
 use Rattle.dr_report.specs.Conditions.{HoldsNumbersOf}
 use Rattle.dr_report.specs.Reports.{TellsGroups, datastore_text, step_text, steps_text, wave_text, waves_text, preview_text_of}
-use Rattle.dr_report.specs.Values.{HasNames, IsAnswer}
+use Rattle.dr_report.specs.Values.{HasNames, IsToldAnswer}
 use Rattle.dr_report.proofs.AnswerLaws.{key, key_of, key_told, told_apart}
 
 -- a text that is empty, or begins with a byte above the digits
@@ -98,7 +98,7 @@ high_key : (byte : ℕ) (rest : List ℕ) → 57 < byte → get_or (key (byte �
 high_key byte rest high = rw (ne_eqb byte 48 (λ e. absurd (omega (arith, e, high)))) refl
 
 -- a report with the answer's line behind it is no other answer's line
-pub shown_apart : (estate : Option Estate) (report : List ℕ) (b : Answer) → BeginsHigh report → IfSome estate IsSound → HasNames estate → HoldsNumbersOf estate b → IsAnswer b → report ++ answer_text_of None answers.Shown ≡ answer_text_of estate b → b ≡ answers.Shown
+pub shown_apart : (estate : Option Estate) (report : List ℕ) (b : Answer) → BeginsHigh report → IfSome estate IsSoundEstate → HasNames estate → HoldsNumbersOf estate b → IsToldAnswer b → report ++ answer_text_of None answers.Shown ≡ answer_text_of estate b → b ≡ answers.Shown
 shown_apart estate [] b high sound names k q e = sym (told_apart estate answers.Shown b sound names tt k tt q e)
 shown_apart estate (byte ∷ rest) b high sound names k q e =
     let line = rest ++ answer_text_of None answers.Shown in

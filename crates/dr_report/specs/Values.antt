@@ -86,19 +86,19 @@ IsRefusal (refusals.NoSlot kind have need) = IsNumber have × IsNumber need
 IsRefusal (refusals.JournalFull length need) = IsWide length × IsWide need
 
 -- an answer that is told: no want of memory of a fault and no read fault of a request, which are answers of their own; a missing method is not told with the method that there is
-abbrev pub IsAnswer : Answer → Type 0
-IsAnswer (answers.Done run) = IsNumber run
-IsAnswer (answers.BadWords place) = IsNumber place
-IsAnswer (answers.Estate fault) = IsEstateFault fault
-IsAnswer (answers.Groups group_faults.NoMemory) = ⊥
-IsAnswer (answers.Plan name fault) = IsName name × IsPlanFault fault
-IsAnswer (answers.Refused refusal) = IsRefusal refusal
-IsAnswer (answers.Request (request_faults.H4 method)) = ⊥
-IsAnswer (answers.Request request_faults.ReadFault) = ⊥
-IsAnswer (answers.Request request_faults.NoMemory) = ⊥
-IsAnswer (answers.Waiting run step) = IsNumber run × IsNumber step
-IsAnswer (answers.Incomplete run machines) = IsNumber run × IsNumber machines
-IsAnswer (answers.CalloutFault step) = IsNumber step
-IsAnswer (answers.JournalDamaged offset) = IsWide offset
-IsAnswer (answers.Foreign object wanted found) = IsNumber wanted × IsNumber found
-IsAnswer _ = Unit {0}
+abbrev pub IsToldAnswer : Answer → Type 0
+IsToldAnswer (answers.Done run) = IsNumber run
+IsToldAnswer (answers.BadWords place) = IsNumber place
+IsToldAnswer (answers.Estate fault) = IsEstateFault fault
+IsToldAnswer (answers.Groups group_faults.NoMemory) = ⊥
+IsToldAnswer (answers.Plan name fault) = IsName name × IsPlanFault fault
+IsToldAnswer (answers.Refused refusal) = IsRefusal refusal
+IsToldAnswer (answers.Request (request_faults.H4 method)) = ⊥
+IsToldAnswer (answers.Request request_faults.ReadFault) = ⊥
+IsToldAnswer (answers.Request request_faults.NoMemory) = ⊥
+IsToldAnswer (answers.Waiting run step) = IsNumber run × IsNumber step
+IsToldAnswer (answers.Incomplete run machines) = IsNumber run × IsNumber machines
+IsToldAnswer (answers.CalloutFault step) = IsNumber step
+IsToldAnswer (answers.JournalDamaged offset) = IsWide offset
+IsToldAnswer (answers.Foreign object wanted found) = IsNumber wanted × IsNumber found
+IsToldAnswer _ = Unit {0}

@@ -3,7 +3,7 @@
 ghost use Rattle.std.specs.Prelude.{◌≡◌, ◌<◌, ◌==◌, ◌++◌, if◌then◌else◌, ℕ, length, slice_index_or, codes, unwrap_or, Some, None, IfOk, OnOk};
 ghost use Rattle.std.specs.List.{list_any};
 ghost use Rattle.std.specs.Option.{option_or};
-ghost use Rattle.dr_inventory.specs.Sound.{IsSound, AllBelow};
+ghost use Rattle.dr_inventory.specs.Sound.{IsSoundEstate, AllBelow};
 ghost use Rattle.dr_groups.specs.Links.{AreLabels};
 ghost use Rattle.dr_report.specs.Lines.{Appends};
 ghost use Rattle.dr_report.specs.Reports.{first_group, datastore_text, groups_text_of, AreOwners, TellsGroups};
@@ -54,7 +54,7 @@ fn no_owners(alloc: Global, count: usize) -> Result<Vec<Option<Name>>, AllocErro
 
 // For each datastore the first group that names it.
 fn owners_of(alloc: Global, estate: &Estate) -> Result<Vec<Option<Name>>, AllocError>
-    requires { IsSound estate.now }
+    requires { IsSoundEstate estate.now }
     ensures { IfOk result (λ owners. AreOwners estate.now owners.items) }
 {
     let mut owners = no_owners(alloc, estate.datastores.as_slice().len())?;
@@ -81,7 +81,7 @@ fn append_datastore<'a>(
     datastore: usize,
     out: &mut Vec<u8>,
 ) -> Result<(), NoMemory>
-    requires sound { IsSound estate.now }
+    requires sound { IsSoundEstate estate.now }
     requires declared { datastore < length estate.now.datastores }
     requires labels { AreLabels estate.now labels.now }
     requires owners { AreOwners estate.now owners.now }
@@ -104,7 +104,7 @@ fn append_datastores(
     owners: &[Option<Name>],
     out: &mut Vec<u8>,
 ) -> Result<(), NoMemory>
-    requires sound { IsSound estate.now }
+    requires sound { IsSoundEstate estate.now }
     requires labels { AreLabels estate.now labels.now }
     requires owners { AreOwners estate.now owners.now }
     ensures { OnOk result (out.new.items ≡ out.old.items ++ groups_text_of estate.now labels.now) }
@@ -118,7 +118,7 @@ fn append_datastores(
 /// The datastores in the estate's order, one a line: each with the least datastore of its datastore
 /// group, and with the first protection group that names it, or a dash where none does.
 pub fn groups_text(alloc: Global, estate: &Estate) -> Result<Vec<u8>, NoMemory>
-    requires { IsSound estate.now }
+    requires { IsSoundEstate estate.now }
     ensures { IfOk result (λ text. TellsGroups estate.now text.items) }
 {
     let labels = datastore_groups(alloc, estate)?;

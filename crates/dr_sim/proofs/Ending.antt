@@ -13,7 +13,8 @@ use Rattle.dr_outside.specs.declared.array.ArrayFail.{ArrayFail}
 use Rattle.dr_outside.specs.declared.array.ArrayFail.TheVariants.{Failed, Wrong}
 use Rattle.dr_outside.specs.BySide.{at}
 use Rattle.dr_outside.specs.Pairs.{Drift, Made, is_fit, made, may_fail, half, target}
-use Rattle.dr_outside.specs.Arrays.{ArrayStep, SomeDone, EachStep, IsWrong, IsFirstUnfit, is_listed, has_part}
+use Rattle.dr_base.specs.Lists.{has}
+use Rattle.dr_outside.specs.Arrays.{ArrayStep, SomeDone, EachStep, IsWrong, IsFirstUnfit, has_part}
 use Rattle.dr_outside.specs.PairLists.{pair_at}
 use Rattle.dr_outside.proofs.Drifts.{Drift-refl}
 use Rattle.dr_sim.specs.declared.faults.ArrayFault.{ArrayFault}
@@ -43,7 +44,7 @@ fit_before call p q d =
     same_fit Reverse p q s l w n = rw (s, l, w) refl
 
 -- each pair of a list that is fit is fit
-listed_fit : (call : ArrayCall) (list : List ℕ) (pair : ℕ → Pair) → are_fit call list pair ≡ true → (i : ℕ) → is_listed list i ≡ true → is_fit call (pair i) ≡ true
+listed_fit : (call : ArrayCall) (list : List ℕ) (pair : ℕ → Pair) → are_fit call list pair ≡ true → (i : ℕ) → has list i ≡ true → is_fit call (pair i) ≡ true
 listed_fit call [] pair fit i h = absurd (true≢false (sym h))
 listed_fit call (k ∷ rest) pair fit i h =
     elim (cases_Bool (is_fit call (pair k))) [
@@ -55,19 +56,19 @@ listed_fit call (k ∷ rest) pair fit i h =
     ]
 
 -- a list of pairs that are all fit
-pub all_fit : (call : ArrayCall) (list : List ℕ) (pair : ℕ → Pair) → ((j : ℕ) → is_listed list j ≡ true → is_fit call (pair j) ≡ true) → are_fit call list pair ≡ true
+pub all_fit : (call : ArrayCall) (list : List ℕ) (pair : ℕ → Pair) → ((j : ℕ) → has list j ≡ true → is_fit call (pair j) ≡ true) → are_fit call list pair ≡ true
 all_fit call [] pair fit = refl
 all_fit call (k ∷ rest) pair fit = rw (fit k (rw (eq-eqb k k refl) refl)) (all_fit call rest pair (λ j h. fit j (rw h (or_true _))))
 
 -- a list with a pair that isn't fit
-pub not_all_fit : (call : ArrayCall) (list : List ℕ) (pair : ℕ → Pair) (k : ℕ) → is_listed list k ≡ true → is_fit call (pair k) ≡ false → are_fit call list pair ≡ false
+pub not_all_fit : (call : ArrayCall) (list : List ℕ) (pair : ℕ → Pair) (k : ℕ) → has list k ≡ true → is_fit call (pair k) ≡ false → are_fit call list pair ≡ false
 not_all_fit call list pair k listed unfit = elim (cases_Bool (are_fit call list pair)) [
   | inl fit ↦ absurd (true≢false (sym (listed_fit call list pair fit k listed) ∙ unfit))
   | inr not_fit ↦ not_fit
 ]
 
 -- they are all fit, or not, by the first that isn't
-pub fit_by : (call : ArrayCall) (list : List ℕ) (pair : ℕ → Pair) (found : Option ℕ) → MatchOption found ((j : ℕ) → is_listed list j ≡ true → is_fit call (pair j) ≡ true) (λ k. IsFirstUnfit call list pair k) → are_fit call list pair ≡ not (is_some found)
+pub fit_by : (call : ArrayCall) (list : List ℕ) (pair : ℕ → Pair) (found : Option ℕ) → MatchOption found ((j : ℕ) → has list j ≡ true → is_fit call (pair j) ≡ true) (λ k. IsFirstUnfit call list pair k) → are_fit call list pair ≡ not (is_some found)
 fit_by call list pair None fit = all_fit call list pair fit
 fit_by call list pair (Some k) first = not_all_fit call list pair k first.listed first.unfit
 
@@ -76,8 +77,8 @@ pub none_made : (call : ArrayCall) (list : List ℕ) (group : ℕ → ℕ) (pair
 none_made call list group pair groups not_fit i = rw not_fit refl
 
 -- where all are, those of the first groups are made, as they are marked
-pub marked_made : (call : ArrayCall) (list : List ℕ) (group : ℕ → ℕ) (pair new : ℕ → Pair) (groups : ℕ) (marks : ℕ → Bool) → are_fit call list pair ≡ true → ((k : ℕ) → is_listed list k ≡ true → marks (group k) ≡ is_listed (take groups (groups_of group list)) (group k)) → Makes call (λ i. is_listed list i && marks (group i)) pair new → Makes call (is_done call list group pair groups) pair new
-marked_made call list group pair new groups marks fit marked makes i = elim (cases_Bool (is_listed list i)) [
+pub marked_made : (call : ArrayCall) (list : List ℕ) (group : ℕ → ℕ) (pair new : ℕ → Pair) (groups : ℕ) (marks : ℕ → Bool) → are_fit call list pair ≡ true → ((k : ℕ) → has list k ≡ true → marks (group k) ≡ has (take groups (groups_of group list)) (group k)) → Makes call (λ i. has list i && marks (group i)) pair new → Makes call (is_done call list group pair groups) pair new
+marked_made call list group pair new groups marks fit marked makes i = elim (cases_Bool (has list i)) [
   | inl is ↦ makes i ∙ rw (fit, is, marked i is) refl
   | inr isnt ↦ makes i ∙ rw (fit, isnt) refl
 ]
@@ -187,10 +188,10 @@ and_first false b h = absurd (true≢false (sym h))
 -- a call that fails after some groups
 some_done : (call : ArrayCall) (list : List ℕ) (side : Side) (groups : ℕ) (group : ℕ → ℕ) (old was new : ℕ → Pair) → ((i : ℕ) → Drift (old i) (was i)) → has_part call list old side ≡ true → Makes call (is_done call list group was groups) was new → SomeDone call list side group old new
 some_done call list side groups group old was new d part makes =
-    let done : ℕ → Bool = λ g. are_fit call list was && is_listed (take groups (groups_of group list)) g in
+    let done : ℕ → Bool = λ g. are_fit call list was && has (take groups (groups_of group list)) g in
     record {
       done = done;
-      each = each_step call (λ i. is_listed list i && done (group i)) old was new d (λ i h. fits i h) (λ i. makes i ∙ ap (λ b. if b then made call (was i) else was i) (turn (are_fit call list was) (is_listed list i) _));
+      each = each_step call (λ i. has list i && done (group i)) old was new d (λ i h. fits i h) (λ i. makes i ∙ ap (λ b. if b then made call (was i) else was i) (turn (are_fit call list was) (has list i) _));
       fit = λ i j a b c. sym (fit_before call (old j) (was j) (d j)) ∙ listed_fit call list was (and_first _ _ b) j c;
       part = part;
     }
@@ -201,10 +202,10 @@ some_done call list side groups group old was new d part makes =
     turn false true c = refl
     turn false false c = refl
 
-    fits : (i : ℕ) → (is_listed list i && (are_fit call list was && is_listed (take groups (groups_of group list)) (group i))) ≡ true → is_fit call (was i) ≡ true
-    fits i h = split (is_listed list i) (are_fit call list was) refl refl
+    fits : (i : ℕ) → (has list i && (are_fit call list was && has (take groups (groups_of group list)) (group i))) ≡ true → is_fit call (was i) ≡ true
+    fits i h = split (has list i) (are_fit call list was) refl refl
       where
-        split : (l f : Bool) → is_listed list i ≡ l → are_fit call list was ≡ f → is_fit call (was i) ≡ true
+        split : (l f : Bool) → has list i ≡ l → are_fit call list was ≡ f → is_fit call (was i) ≡ true
         split true true l f = listed_fit call list was f i l
         split true false l f = absurd (true≢false (sym (rw (l, f) at h)))
         split false f_is l f = absurd (true≢false (sym (rw l at h)))
@@ -214,7 +215,7 @@ pub list_step : (call : ArrayCall) (list : List ℕ) (old new : SimArrayState) (
 list_step call list old new result d step = go (list_fault call list old) refl step.ends
   where
     whole : (result : Result (Unit {0}) ArrayFail) → MakesAll call list (pair_before old) (pair_at new.pairs) result → ArrayStep call list (state_of old) (state_of new) result
-    whole (Ok x) m = each_step call (is_listed list) (pair_at old.pairs) (pair_before old) (pair_at new.pairs) d (listed_fit call list (pair_before old) m.0) m.1
+    whole (Ok x) m = each_step call (has list) (pair_at old.pairs) (pair_before old) (pair_at new.pairs) d (listed_fit call list (pair_before old) m.0) m.1
     whole (Err (Wrong k seen)) m = wrong_step call list (pair_at old.pairs) (pair_before old) (pair_at new.pairs) k seen d m.0 m.1 m.2
     whole (Err (Failed side)) m = absurd m
 

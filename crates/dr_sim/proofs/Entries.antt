@@ -3,7 +3,7 @@ use Rattle.std.proofs.Common.{◌≡◌, ◌∙◌, ℕ, ◌<◌, ◌≤◌, ◌
 use Rattle.std.proofs.lemmas.Bool.{cases_Bool, cases_order}
 use Rattle.std.proofs.lemmas.List.{get_or_past}
 use Rattle.dr_inventory.specs.declared.estate.Estate.{Estate}
-use Rattle.dr_inventory.specs.Sound.{IsSound}
+use Rattle.dr_inventory.specs.Sound.{IsSoundEstate}
 use Rattle.dr_inventory.specs.Consistency.{HasLeastEntries}
 use Rattle.dr_groups.specs.Consistency.{HasConsistencyGroups}
 use Rattle.dr_outside.specs.Arrays.{IsLeastOfClass}
@@ -19,7 +19,7 @@ below_or_past i n = elim (cases_order i n) [
   | inr o ↦ elim o [ inl lt ↦ inl lt | inr gt ↦ inr (omega arith) ]
 ]
 
-module _ (estate : Estate) (sound : IsSound estate) (entries : HasLeastEntries estate) where
+module _ (estate : Estate) (sound : IsSoundEstate estate) (entries : HasLeastEntries estate) where
   -- past the last device there is no entry
   past : (i : ℕ) → length estate.devices ≤ i → get_or estate.consistency i 0 ≡ 0
   past i h = get_or_past estate.consistency i 0 (omega (arith, sound.numbers.one_entry_each, h))
@@ -52,13 +52,13 @@ group_is_entry entries least i =
     ]
 
 -- the groups of an array at first
-pub opening_groups : (estate : Estate) (writes : List (ℕ × ℕ)) (to_fail : List ArrayFault) (to_write : List Write) (array : SimArrayState) → IsSound estate → HasLeastEntries estate → IsOpening estate writes to_fail to_write array
+pub opening_groups : (estate : Estate) (writes : List (ℕ × ℕ)) (to_fail : List ArrayFault) (to_write : List Write) (array : SimArrayState) → IsSoundEstate estate → HasLeastEntries estate → IsOpening estate writes to_fail to_write array
     → (i : ℕ) → least_of array.entries i ≡ get_or estate.consistency i 0
 opening_groups estate writes to_fail to_write array sound entries opening i =
     ap (λ es. least_of es i) opening.entries ∙ group_is_entry estate.consistency (least_class estate sound entries) i
 
 -- which are those of the estate
-pub opening_has_groups : (estate : Estate) (writes : List (ℕ × ℕ)) (to_fail : List ArrayFault) (to_write : List Write) (array : SimArrayState) → IsSound estate → HasLeastEntries estate → IsOpening estate writes to_fail to_write array
+pub opening_has_groups : (estate : Estate) (writes : List (ℕ × ℕ)) (to_fail : List ArrayFault) (to_write : List Write) (array : SimArrayState) → IsSoundEstate estate → HasLeastEntries estate → IsOpening estate writes to_fail to_write array
     → HasConsistencyGroups estate (state_of array).group
 opening_has_groups estate writes to_fail to_write array sound entries opening =
     let group_is : (i : ℕ) → least_of array.entries i ≡ get_or estate.consistency i 0 = opening_groups estate writes to_fail to_write array sound entries opening in

@@ -10,7 +10,7 @@ use Rattle.dr_outside.specs.declared.machine.Post.TheVariants.{Placeholder, Off,
 use Rattle.dr_outside.specs.declared.machine.PortCall.{PortCall}
 use Rattle.dr_outside.specs.declared.machine.PortCall.TheVariants.{Register, Start, Stop, Unregister}
 use Rattle.dr_outside.specs.BySide.{at, put}
-use Rattle.dr_outside.specs.Machines.{PortState, PortStep, ChangesPost, SameMachine, Left, is_ready_for, post_after, turned}
+use Rattle.dr_outside.specs.Machines.{PortState, PortStep, ChangesPost, SameMachine, Left, is_ready_for, post_after, with_power}
 use Rattle.dr_outside.proofs.BySide.{at-put_same, at-put_other}
 use Rattle.dr_sim.specs.Ports.{is_start, post_left, post_then, call_answer}
 
@@ -20,7 +20,7 @@ put-at A sides = refl
 put-at B sides = refl
 
 -- what a fault leaves is as the call may leave it
-left_of : (a b : Bool) (call : PortCall) (post : Post) → Left call post (if a then post else (if b && is_start call then turned On post else post_after call post))
+left_of : (a b : Bool) (call : PortCall) (post : Post) → Left call post (if a then post else (if b && is_start call then with_power On post else post_after call post))
 left_of true b (Register x) post = inl refl
 left_of true b Start Placeholder = inl refl
 left_of true b Start (Off x) = inl refl

@@ -13,7 +13,8 @@ use Rattle.dr_outside.specs.declared.array.ArrayFail.TheVariants.{Failed, Wrong}
 use Rattle.dr_outside.specs.BySide.{at, only}
 use Rattle.dr_outside.specs.Counts.{one_more_at}
 use Rattle.dr_outside.specs.Pairs.{target, made, half, is_fit, may_fail}
-use Rattle.dr_outside.specs.Arrays.{ArrayState, is_listed, IsFirstUnfit}
+use Rattle.dr_base.specs.Lists.{has}
+use Rattle.dr_outside.specs.Arrays.{ArrayState, IsFirstUnfit}
 use Rattle.dr_outside.specs.PairLists.{pair_at}
 use Rattle.dr_sim.specs.declared.faults.ArrayFault.{ArrayFault}
 use Rattle.dr_sim.specs.declared.meter.Meter.{Meter}
@@ -69,7 +70,7 @@ are_fit call list pair = list_all (λ k. is_fit call (pair k)) list
 
 -- whether a call that fails after so many consistency groups makes pair i: all are as it needs them, and the pair is one of the list, in one of its first groups
 abbrev pub is_done : ArrayCall → List ℕ → (ℕ → ℕ) → (ℕ → Pair) → ℕ → ℕ → Bool
-is_done call list group pair groups i = are_fit call list pair && (is_listed list i && is_listed (take groups (groups_of group list)) (group i))
+is_done call list group pair groups i = are_fit call list pair && (has list i && has (take groups (groups_of group list)) (group i))
 
 -- the pairs that pass a test are made, and no other changes
 abbrev pub Makes : ArrayCall → (ℕ → Bool) → (ℕ → Pair) → (ℕ → Pair) → Type 0
@@ -77,7 +78,7 @@ Makes call test old new = (i : ℕ) → new i ≡ (if test i then made call (old
 
 -- what a call that has no fault does: it makes each pair of the list, or it shows the first that isn't as it needs it, as its target has it, and makes none
 abbrev pub MakesAll : ArrayCall → List ℕ → (ℕ → Pair) → (ℕ → Pair) → Result (Unit {0}) ArrayFail → Type 0
-MakesAll call list old new (Ok _) = (are_fit call list old ≡ true) × Makes call (is_listed list) old new
+MakesAll call list old new (Ok _) = (are_fit call list old ≡ true) × Makes call (has list) old new
 MakesAll call list old new (Err (Wrong k seen)) = IsFirstUnfit call list old k × (seen ≡ half (target (old k)) (old k)) × ((i : ℕ) → new i ≡ old i)
 MakesAll call list old new (Err (Failed side)) = ⊥
 

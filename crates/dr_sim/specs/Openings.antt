@@ -10,7 +10,7 @@ use Rattle.dr_outside.specs.declared.pair.Content.{Content}
 use Rattle.dr_outside.specs.declared.pair.Pair.{Pair}
 use Rattle.dr_outside.specs.declared.pair.Link.TheVariants.{Live}
 use Rattle.dr_outside.specs.BySide.{put, only}
-use Rattle.dr_outside.specs.Arrays.{is_listed}
+use Rattle.dr_base.specs.Lists.{has}
 use Rattle.dr_outside.specs.PairLists.{pair_at}
 use Rattle.dr_sim.specs.declared.faults.ArrayFault.{ArrayFault}
 use Rattle.dr_sim.specs.declared.production.Write.{Write}
@@ -24,7 +24,7 @@ devices_in (Some datastore) = datastore.devices
 
 -- whether a protection group has this device
 abbrev pub has_device : Estate → GroupRow → ℕ → Bool
-has_device estate group i = list_any (λ d. is_listed (devices_in (slice_get estate.datastores d)) i) group.datastores
+has_device estate group i = list_any (λ d. has (devices_in (slice_get estate.datastores d)) i) group.datastores
 
 -- the side that is protected at a device: that of the first of these groups that has it, and A where none has
 abbrev pub protected_at : Estate → List GroupRow → ℕ → Side

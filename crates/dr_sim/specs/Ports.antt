@@ -14,7 +14,7 @@ use Rattle.dr_outside.specs.declared.runner.RunnerFail.{RunnerFail}
 use Rattle.dr_outside.specs.declared.runner.RunnerFail.TheVariants as runner
 use Rattle.dr_outside.specs.BySide.{at, put}
 use Rattle.dr_outside.specs.Counts.{one_more_at}
-use Rattle.dr_outside.specs.Machines.{PortState, is_ready_for, post_after, turned}
+use Rattle.dr_outside.specs.Machines.{PortState, is_ready_for, post_after, with_power}
 use Rattle.dr_sim.specs.declared.faults.PortFault.{PortFault}
 use Rattle.dr_sim.specs.declared.meter.Meter.{Meter}
 use Rattle.dr_sim.specs.Commands.{Codes, no_codes, codes_after, answer_of, is_fault}
@@ -39,14 +39,14 @@ name_of A = codes "A"
 name_of B = codes "B"
 
 -- where a machine runs at first: what it is placed in has its site's name
-abbrev pub placed_at : Side → Placed
-placed_at home = record { place = record { network = name_of home; folder = name_of home; pool = name_of home }; bubble = false }
+abbrev pub opening_placed : Side → Placed
+opening_placed home = record { place = record { network = name_of home; folder = name_of home; pool = name_of home }; bubble = false }
 
 -- a machine at first: it is ready at its home, and has a place at the other side
 abbrev pub opening_port : Side → List PortFault → SimPortState
 opening_port home faults =
     record {
-      post = put home (Ready (placed_at home)) (record { a = Placeholder; b = Placeholder });
+      post = put home (Ready (opening_placed home)) (record { a = Placeholder; b = Placeholder });
       codes = no_codes;
       meter = unused;
       faults = faults;
@@ -70,7 +70,7 @@ is_start Unregister = false
 
 -- what a fault makes of a post that is as its call needs it: 0 leaves it as before, 1 leaves a start on, and else the call is done
 abbrev pub post_left : ℕ → PortCall → Post → Post
-post_left leaves call post = if leaves == 0 then post else (if (leaves == 1) && is_start call then turned On post else post_after call post)
+post_left leaves call post = if leaves == 0 then post else (if (leaves == 1) && is_start call then with_power On post else post_after call post)
 
 -- what a call makes of a post that is as it needs it, by its fault
 abbrev pub post_by : Option ℕ → PortCall → Post → Post

@@ -1,7 +1,8 @@
 //! Consistency groups of a list of pairs.
 
 ghost use Rattle.std.specs.Prelude.{◌≡◌, ℕ, ◌<◌, ◌-◌, true, false, not, ◌&&◌, ◌==◌, nat_lt, if◌then◌else◌, length, take, slice_index_or, slice_set};
-ghost use Rattle.dr_outside.specs.Arrays.{is_listed, IsPairList};
+ghost use Rattle.dr_base.specs.Lists.{has};
+ghost use Rattle.dr_outside.specs.Arrays.{IsPairList};
 ghost use Rattle.dr_outside.specs.Pairs.{made};
 ghost use Rattle.dr_outside.specs.PairLists.{pair_at};
 ghost use Rattle.dr_sim.specs.Arrays.{is_done, Makes};
@@ -27,7 +28,7 @@ fn least_of(entries: &[u32], i: u32) -> u32
 fn unmark(entries: &[u32], list: &[u32], marks: &mut [bool])
     requires list { IsPairList (length entries.now) list.now }
     requires marks { length marks.old ≡ length entries.now }
-    ensures { (k : ℕ) → is_listed list.now k ≡ true → slice_index_or marks.new (least_of entries.now k) false ≡ false }
+    ensures { (k : ℕ) → has list.now k ≡ true → slice_index_or marks.new (least_of entries.now k) false ≡ false }
 {
     for k in list {
         marks[least_of(entries, *k) as usize] = false;
@@ -52,9 +53,9 @@ fn mark_one(group: usize, left: u32, marks: &mut [bool]) -> u32
 fn mark(entries: &[u32], list: &[u32], groups: u32, marks: &mut [bool])
     requires list { IsPairList (length entries.now) list.now }
     requires marks { length marks.old ≡ length entries.now }
-    requires none { (k : ℕ) → is_listed list.now k ≡ true → slice_index_or marks.old (least_of entries.now k) false ≡ false }
-    ensures { (k : ℕ) → is_listed list.now k ≡ true → slice_index_or marks.new (least_of entries.now k) false
-        ≡ is_listed (take groups (groups_of (least_of entries.now) list.now)) (least_of entries.now k) }
+    requires none { (k : ℕ) → has list.now k ≡ true → slice_index_or marks.old (least_of entries.now k) false ≡ false }
+    ensures { (k : ℕ) → has list.now k ≡ true → slice_index_or marks.new (least_of entries.now k) false
+        ≡ has (take groups (groups_of (least_of entries.now) list.now)) (least_of entries.now k) }
 {
     let mut left = groups;
     for k in list {
@@ -67,8 +68,8 @@ fn mark(entries: &[u32], list: &[u32], groups: u32, marks: &mut [bool])
 fn mark_first(entries: &[u32], list: &[u32], groups: u32, marks: &mut [bool])
     requires list { IsPairList (length entries.now) list.now }
     requires marks { length marks.old ≡ length entries.now }
-    ensures { (k : ℕ) → is_listed list.now k ≡ true → slice_index_or marks.new (least_of entries.now k) false
-        ≡ is_listed (take groups (groups_of (least_of entries.now) list.now)) (least_of entries.now k) }
+    ensures { (k : ℕ) → has list.now k ≡ true → slice_index_or marks.new (least_of entries.now k) false
+        ≡ has (take groups (groups_of (least_of entries.now) list.now)) (least_of entries.now k) }
 {
     unmark(entries, list, marks);
     mark(entries, list, groups, marks);
@@ -91,7 +92,7 @@ fn make_marked(call: ArrayCall, pairs: &mut [Pair], list: &[u32], entries: &[u32
     requires pairs { length pairs.old ≡ length entries.now }
     requires marks { length marks.now ≡ length entries.now }
     ensures { (i : ℕ) → pair_at pairs.new i
-        ≡ (if is_listed list.now i && slice_index_or marks.now (least_of entries.now i) false then made call (pair_at pairs.old i) else pair_at pairs.old i) }
+        ≡ (if has list.now i && slice_index_or marks.now (least_of entries.now i) false then made call (pair_at pairs.old i) else pair_at pairs.old i) }
 {
     for k in list {
         make_if(call, marks[least_of(entries, *k) as usize], *k, pairs);

@@ -2,8 +2,8 @@
 
 ghost use Rattle.std.specs.Prelude.{◌≡◌, ℕ, ◌<◌, if◌then◌else◌, length, slice_get, slice_index_or, IfOk};
 ghost use Rattle.dr_base.specs.declared.side.Side.TheVariants.{A};
-ghost use Rattle.dr_inventory.specs.Sound.{IsSound, AllBelow};
-ghost use Rattle.dr_outside.specs.Arrays.{is_listed};
+ghost use Rattle.dr_inventory.specs.Sound.{IsSoundEstate, AllBelow};
+ghost use Rattle.dr_base.specs.Lists.{has};
 ghost use Rattle.dr_outside.specs.PairLists.{pair_at};
 ghost use Rattle.dr_sim.specs.Openings.{devices_in, has_device, protected_at, opening_of};
 
@@ -15,7 +15,7 @@ use std::alloc::{AllocError, Global};
 // Sets the side of each of these devices.
 fn protect_devices(devices: &[u32], side: Side, sides: &mut [Side])
     requires { AllBelow (length sides.old) devices.now }
-    ensures { (i : ℕ) → slice_index_or sides.new i A ≡ (if is_listed devices.now i then side else slice_index_or sides.old i A) }
+    ensures { (i : ℕ) → slice_index_or sides.new i A ≡ (if has devices.now i then side else slice_index_or sides.old i A) }
 {
     for device in devices {
         sides[*device as usize] = side;
@@ -25,7 +25,7 @@ fn protect_devices(devices: &[u32], side: Side, sides: &mut [Side])
 // The devices of a datastore.
 fn devices_of(estate: &Estate, datastore: u32) -> &[u32]
     requires declared { datastore < length estate.now.datastores }
-    requires sound { IsSound estate.now }
+    requires sound { IsSoundEstate estate.now }
     ensures devices { result.now ≡ devices_in (slice_get estate.now.datastores datastore) }
     ensures within { AllBelow (length estate.now.devices) result.now }
 {
@@ -37,7 +37,7 @@ fn devices_of(estate: &Estate, datastore: u32) -> &[u32]
 // Sets the side of each device of a protection group.
 fn protect_group(estate: &Estate, group: &GroupRow, sides: &mut [Side])
     requires declared { AllBelow (length estate.now.datastores) group.now.datastores }
-    requires sound { IsSound estate.now }
+    requires sound { IsSoundEstate estate.now }
     requires one_each { length sides.old ≡ length estate.now.devices }
     ensures { (i : ℕ) → slice_index_or sides.new i A ≡ (if has_device estate.now group.now i then group.now.protects else slice_index_or sides.old i A) }
 {
@@ -50,7 +50,7 @@ fn protect_group(estate: &Estate, group: &GroupRow, sides: &mut [Side])
 // Sets the side of each device of a protection group, of the last one first, so that the first that
 // has a device counts.
 fn protect_all(estate: &Estate, sides: &mut [Side])
-    requires sound { IsSound estate.now }
+    requires sound { IsSoundEstate estate.now }
     requires one_each { length sides.old ≡ length estate.now.devices }
     requires first { (i : ℕ) → slice_index_or sides.old i A ≡ A }
     ensures { (i : ℕ) → slice_index_or sides.new i A ≡ protected_at estate.now estate.now.groups i }
@@ -91,7 +91,7 @@ pub fn opening_pairs(
     estate: &Estate,
     writes: &[(u64, u64)],
 ) -> Result<Vec<Pair>, AllocError>
-    requires sound { IsSound estate.now }
+    requires sound { IsSoundEstate estate.now }
     requires one_each { length writes.now ≡ length estate.now.devices }
     ensures count { IfOk result (λ pairs. length pairs.items ≡ length estate.now.devices) }
     ensures pairs { IfOk result (λ pairs. (i : ℕ) → i < length estate.now.devices →

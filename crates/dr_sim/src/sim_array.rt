@@ -1,6 +1,6 @@
 ghost use Rattle.std.specs.Prelude.{◌≡◌, ℕ, ◌<◌, ◌≤◌, true, length, IfErr, IfOk, Ok, slice_index};
 ghost use Rattle.dr_base.specs.declared.side.Side.{Side};
-ghost use Rattle.dr_inventory.specs.Sound.{IsSound};
+ghost use Rattle.dr_inventory.specs.Sound.{IsSoundEstate};
 ghost use Rattle.dr_inventory.specs.Consistency.{HasLeastEntries};
 ghost use Rattle.dr_outside.specs.declared.array.ArrayCall.TheVariants.{Sync, TestStart, TestStop, Prepare, Failover, Reverse};
 ghost use Rattle.dr_outside.specs.declared.array.ArrayFail.TheVariants.{Failed};
@@ -121,7 +121,7 @@ impl SimArray {
         faults: Vec<ArrayFault>,
         writer: Vec<Write>,
     ) -> Result<SimArray, NoMemory>
-        requires sound { IsSound estate.now }
+        requires sound { IsSoundEstate estate.now }
         requires least_entries { HasLeastEntries estate.now }
         requires one_each { length writes.now ≡ length estate.now.devices }
         ensures opening { IfOk result (IsOpening estate.now writes.now faults.items writer.items) }
@@ -137,7 +137,7 @@ impl SimArray {
         faults: Vec<ArrayFault>,
         writer: Vec<Write>,
     ) -> Result<SimArray, AllocError>
-        requires sound { IsSound estate.now }
+        requires sound { IsSoundEstate estate.now }
         requires one_each { length writes.now ≡ length estate.now.devices }
         ensures { IfOk result (IsOpening estate.now writes.now faults.items writer.items) }
     {
@@ -176,7 +176,7 @@ impl SimArray {
     }
 
     // What a call does that fails after so many consistency groups.
-    fn make_first(&mut self, call: ArrayCall, list: &[u32], groups: u32)
+    fn fail_after(&mut self, call: ArrayCall, list: &[u32], groups: u32)
         requires { IsPairList (length self.old.pairs) list.now }
         ensures count { length self.new.pairs ≡ length self.old.pairs }
         ensures others { self.new ≡ record self.old { pairs = self.new.pairs } }
@@ -193,7 +193,7 @@ impl SimArray {
     }
 
     // What a call does that has no fault.
-    fn make_all(&mut self, call: ArrayCall, list: &[u32]) -> Result<(), ArrayFail>
+    fn work(&mut self, call: ArrayCall, list: &[u32]) -> Result<(), ArrayFail>
         requires { IsPairList (length self.old.pairs) list.now }
         ensures count { length self.new.pairs ≡ length self.old.pairs }
         ensures others { self.new ≡ record self.old { pairs = self.new.pairs } }
@@ -217,11 +217,11 @@ impl SimArray {
         );
         self.begin();
         if let Some((side, groups)) = fault {
-            self.make_first(call, list, groups);
+            self.fail_after(call, list, groups);
             self.counts.raise(side);
             return Err(ArrayFail::Failed(side));
         }
-        self.make_all(call, list)
+        self.work(call, list)
     }
 
     // One call on a list of pairs.

@@ -5,10 +5,10 @@ ghost use Rattle.dr_outside.specs.declared.machine.PortFail.TheVariants.{Failed}
 ghost use Rattle.dr_outside.specs.BySide.{at};
 ghost use Rattle.dr_outside.specs.Commands.{code_of};
 ghost use Rattle.dr_outside.specs.declared.machine.Post.TheVariants.{On};
-ghost use Rattle.dr_outside.specs.Machines.{is_ready_for, turned, PortStep, PortRead, PortCause, RanRead, CommandStep, NeverRan, NeverWrong};
+ghost use Rattle.dr_outside.specs.Machines.{is_ready_for, with_power, PortStep, PortRead, PortCause, RanRead, CommandStep, NeverRan, NeverWrong};
 ghost use Rattle.dr_sim.specs.Commands.{answer_of};
 ghost use Rattle.dr_sim.specs.Meters.{counted, fuse_of};
-ghost use Rattle.dr_sim.specs.Ports.{placed_at, opening_port, state_of, next_fault, post_left, after_call, call_answer, after_reading, reading, after_command, port_answer, IsQuiet};
+ghost use Rattle.dr_sim.specs.Ports.{opening_placed, opening_port, state_of, next_fault, post_left, after_call, call_answer, after_reading, reading, after_command, port_answer, IsQuiet};
 
 use crate::faults::{PortFault, port_fault};
 use crate::kept_codes::KeptCodes;
@@ -19,8 +19,8 @@ use std::alloc::Global;
 use std::marker::Model;
 
 // Where a machine runs at first.
-fn placed_at(home: Side) -> Placed
-    ensures { result ≡ placed_at home }
+fn opening_placed(home: Side) -> Placed
+    ensures { result ≡ opening_placed home }
 {
     match home {
         Side::A => Placed::from_texts(b"A", b"A", b"A", false),
@@ -30,7 +30,7 @@ fn placed_at(home: Side) -> Placed
 
 // A started machine that doesn't answer yet, in place of one that is off or on.
 fn turned_on(post: &Post) -> Post
-    ensures { result ≡ turned On post.now }
+    ensures { result ≡ with_power On post.now }
 {
     match post {
         Post::Placeholder => Post::Placeholder,
@@ -81,7 +81,7 @@ impl SimPort {
     pub fn opening(home: Side, faults: Vec<PortFault>) -> SimPort
         ensures { result ≡ opening_port home faults.items }
     {
-        let placed = placed_at(home);
+        let placed = opening_placed(home);
         SimPort {
             post: Sides {
                 a: Post::Placeholder,

@@ -13,16 +13,16 @@ use Rattle.dr_plan.specs.declared.plan.Plan.{Plan}
 use Rattle.dr_plan.specs.declared.plan.PlanMachine.{PlanMachine}
 use Rattle.dr_plan.specs.declared.plan.Wave.{Wave}
 use Rattle.dr_plan.specs.Orders.{IsOrdered, AreWaves, IsWave, IsAt, HasIn, IsEarlierWave}
-use Rattle.dr_outside.specs.Arrays.{is_listed}
+use Rattle.dr_base.specs.Lists.{has}
 use Rattle.dr_outside.proofs.Listed.{mono, place_of}
 use Rattle.dr_testing.specs.Placing.{wave_of, is_planned, IsPlaced, AreStartable, IsStartable}
 use Rattle.dr_testing.specs.Tests.{IsTestable}
 
 -- a number of a list, as its test and as a place
-listed_of : (xs : List ℕ) (v : ℕ) → Contains xs v → is_listed xs v ≡ true
+listed_of : (xs : List ℕ) (v : ℕ) → Contains xs v → has xs v ≡ true
 listed_of xs v c = list_any_at (λ x. x == v) xs c.0 v c.1 (eq-eqb _ _ c.2)
 
-pub contains_of : (xs : List ℕ) (v : ℕ) → is_listed xs v ≡ true → Contains xs v
+pub contains_of : (xs : List ℕ) (v : ℕ) → has xs v ≡ true → Contains xs v
 contains_of xs v l =
     let p : (k : ℕ) × (k < length xs) × (get_or xs k 0 ≡ v) = place_of xs v l in
     (p.0, p.1, get_or_default xs p.0 v 0 p.1 ∙ p.2)
@@ -60,12 +60,12 @@ same_row plan ordered x y cx cy e =
 
 module _ (plan : Plan) (ordered : IsOrdered plan) (waves : List Wave) (are : AreWaves plan waves) where
   -- a wave that has the machine isn't before its wave
-  wave_of_most : (n i : ℕ) (d : Wave) → is_listed (get_or waves n d).machines i ≡ true → wave_of waves i ≤ n
-  wave_of_most n i d has = elim (cases_order (wave_of waves i) n) [
+  wave_of_most : (n i : ℕ) (d : Wave) → has (get_or waves n d).machines i ≡ true → wave_of waves i ≤ n
+  wave_of_most n i d within_wave = elim (cases_order (wave_of waves i) n) [
     | inl e ↦ omega (arith, e)
     | inr o ↦ elim o [
       | inl lt ↦ omega (arith, lt)
-      | inr gt ↦ absurd (let isnt : is_listed (get_or waves n d).machines i ≡ false = fails_before_first (λ w. is_listed w.machines i) waves n d gt in cc (has, isnt))
+      | inr gt ↦ absurd (let isnt : has (get_or waves n d).machines i ≡ false = fails_before_first (λ w. has w.machines i) waves n d gt in cc (within_wave, isnt))
     ]
   ]
 
@@ -73,25 +73,25 @@ module _ (plan : Plan) (ordered : IsOrdered plan) (waves : List Wave) (are : Are
   record IsInWave (i : ℕ) (wave : Wave) : Type 0 where
     listed : wave_of waves i < length waves
     at : slice_get waves (wave_of waves i) ≡ Some wave
-    has : is_listed wave.machines i ≡ true
+    within_wave : has wave.machines i ≡ true
     is : IsWave plan wave
     row : IsAt plan wave.priority wave.depth i
 
   in_wave : (i : ℕ) (d : Wave) → wave_of waves i < length waves → IsInWave i (get_or waves (wave_of waves i) d)
   in_wave i d l =
       let wave : Wave = get_or waves (wave_of waves i) d in
-      let has : is_listed wave.machines i ≡ true = passes_at_first (λ w. is_listed w.machines i) waves d l in
+      let within_wave : has wave.machines i ≡ true = passes_at_first (λ w. has w.machines i) waves d l in
       let is : IsWave plan wave = are.each (wave_of waves i) d l in
-      record { listed = l; at = slice_get-get_or waves (wave_of waves i) d l; has = has; is = is; row = is.only i (contains_of wave.machines i has) }
+      record { listed = l; at = slice_get-get_or waves (wave_of waves i) d l; within_wave = within_wave; is = is; row = is.only i (contains_of wave.machines i within_wave) }
 
   -- a machine that a wave has is in that wave alone
-  apart : (n i : ℕ) (w : Wave) → slice_get waves n ≡ Some w → is_listed w.machines i ≡ true → n < length waves → wave_of waves i ≡ n
-  apart n i w here has within =
+  apart : (n i : ℕ) (w : Wave) → slice_get waves n ≡ Some w → has w.machines i ≡ true → n < length waves → wave_of waves i ≡ n
+  apart n i w here within_wave within =
       let there : get_or waves n w ≡ w = get_or_from_slice_get waves n w w here in
-      let most : wave_of waves i ≤ n = wave_of_most n i w (subst (λ (v : Wave). is_listed v.machines i ≡ true) (sym there) has) in
+      let most : wave_of waves i ≤ n = wave_of_most n i w (subst (λ (v : Wave). has v.machines i ≡ true) (sym there) within_wave) in
       let first : IsInWave i (get_or waves (wave_of waves i) w) = in_wave i w (omega (arith, most, within)) in
       let is : IsWave plan w = subst (IsWave plan) there (are.each n w within) in
-      let row : IsAt plan w.priority w.depth i = is.only i (contains_of w.machines i has) in
+      let row : IsAt plan w.priority w.depth i = is.only i (contains_of w.machines i within_wave) in
       let same : first.row.entry ≡ row.entry = same_row plan ordered first.row.entry row.entry first.row.listed row.listed (first.row.number ∙ sym row.number) in
       let priority : (get_or waves (wave_of waves i) w).priority ≡ w.priority = sym first.row.same_priority ∙ ap (λ (m : PlanMachine). m.priority) same ∙ row.same_priority in
       let depth : (get_or waves (wave_of waves i) w).depth ≡ w.depth = sym first.row.same_depth ∙ ap (λ (m : PlanMachine). m.depth) same ∙ row.same_depth in
@@ -115,10 +115,10 @@ module _ (plan : Plan) (ordered : IsOrdered plan) (waves : List Wave) (are : Are
 
   wave_for : (m : PlanMachine) → Contains plan.machines m → (wave : Wave) × IsWaveOf m wave
   wave_for m c =
-      let has : HasIn waves m.priority m.depth m.machine = are.complete m c in
-      let at : slice_get waves has.listed.0 ≡ Some has.wave = slice_get-get_or waves has.listed.0 has.wave has.listed.1 ∙ ap Some has.listed.2 in
-      let here : wave_of waves m.machine ≡ has.listed.0 = apart has.listed.0 m.machine has.wave at (listed_of has.wave.machines m.machine has.has) has.listed.1 in
-      (has.wave, record { listed = omega (arith, here, has.listed.1); at = ap (slice_get waves) here ∙ at; priority = has.same_priority; depth = has.same_depth })
+      let within_wave : HasIn waves m.priority m.depth m.machine = are.complete m c in
+      let at : slice_get waves within_wave.listed.0 ≡ Some within_wave.wave = slice_get-get_or waves within_wave.listed.0 within_wave.wave within_wave.listed.1 ∙ ap Some within_wave.listed.2 in
+      let here : wave_of waves m.machine ≡ within_wave.listed.0 = apart within_wave.listed.0 m.machine within_wave.wave at (listed_of within_wave.wave.machines m.machine within_wave.of_wave) within_wave.listed.1 in
+      (within_wave.wave, record { listed = omega (arith, here, within_wave.listed.1); at = ap (slice_get waves) here ∙ at; priority = within_wave.same_priority; depth = within_wave.same_depth })
 
   pub planned_in_wave : (i : ℕ) → is_planned plan i ≡ true → wave_of waves i < length waves
   planned_in_wave i h =
@@ -162,7 +162,7 @@ module _ (plan : Plan) (ordered : IsOrdered plan) (waves : List Wave) (are : Are
   pub waves_startable : (estate : Estate) → IsTestable estate plan → AreStartable estate waves
   waves_startable estate t = record {
     each = λ n d l. startable (get_or waves n d) (are.each n d l);
-    apart = λ n i w here has. apart n i w here has (within n w here);
+    apart = λ n i w here within_wave. apart n i w here within_wave (within n w here);
   }
     where
       within : (n : ℕ) (w : Wave) → slice_get waves n ≡ Some w → n < length waves

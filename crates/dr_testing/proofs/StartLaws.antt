@@ -7,9 +7,9 @@ use Rattle.dr_base.specs.declared.side.Side.TheVariants.{B}
 use Rattle.dr_base.specs.declared.placement.Placement.{Placement}
 use Rattle.dr_base.specs.Causes.{Rose}
 use Rattle.dr_outside.specs.declared.machine.Post.TheVariants.{Placeholder, Ready}
-use Rattle.dr_outside.specs.Arrays.{is_listed}
+use Rattle.dr_base.specs.Lists.{has}
 use Rattle.dr_outside.specs.Machines.{PortState}
-use Rattle.dr_outside.proofs.Listed.{mono, place_of, not_yet, is_listed_more, is_listed_at}
+use Rattle.dr_outside.proofs.Listed.{mono, place_of, not_yet, has_more, has_at}
 use Rattle.dr_meaning.specs.Testing.{in_bubble}
 use Rattle.dr_testing.specs.declared.start_up.RefusedMachine.{RefusedMachine}
 use Rattle.dr_testing.specs.declared.start_up.StartFail.{StartFail}
@@ -43,14 +43,14 @@ pub record IsAmong (wave : List ℕ) (n : ℕ) (machine : ℕ) : Type 0 where
 pub record TriedUpTo (wave : List ℕ) (place : ℕ → Placement) (tells : Type 0) (initial : ℕ → PortState) (n : ℕ) (first_failed : Option ℕ) (first_refused : Option RefusedMachine) (now : ℕ → PortState) : Type 0 where
   pub later : (j : ℕ) → NoneFalls (initial j) (now j)
   pub elsewhere : tells → (j : ℕ) → ChangesAtB (initial j) (now j)
-  pub others : (j : ℕ) → is_listed (take n wave) j ≡ false → now j ≡ initial j
+  pub others : (j : ℕ) → has (take n wave) j ≡ false → now j ≡ initial j
   pub failed : IfSome first_failed (IsFailedMachine wave initial now)
   pub first : IfSome first_failed (IsAmong wave n)
   pub refused : IfSome first_refused (IsRefusedMachine wave place)
   pub told : tells → IfSome first_refused (IsToldMachine initial)
   pub among : IfSome first_refused (λ r. IsAmong wave n r.machine)
   pub passed : tells → WerePlaceholders (take n wave) first_failed first_refused initial
-  pub step : tells → EachPlaceholder wave initial → (j : ℕ) → WaveStep (is_listed (take n wave) j) (is_before first_failed j) (in_bubble (place j)) (initial j) (now j)
+  pub step : tells → EachPlaceholder wave initial → (j : ℕ) → WaveStep (has (take n wave) j) (is_before first_failed j) (in_bubble (place j)) (initial j) (now j)
   pub only_failed : tells → EachPlaceholder wave initial → first_refused ≡ None
 
 or_true : (b : Bool) → (b || true) ≡ true
@@ -79,23 +79,23 @@ none_tried wave place tells initial = record {
 
 module _ (wave : List ℕ) (rises : IsStrictlyIncreasing wave) (place : ℕ → Placement) (tells : Type 0) (initial : ℕ → PortState) (n : ℕ) (within : n < length wave) (i : ℕ) (at : get_or wave n 0 ≡ i) where
   -- the machine is of the wave, and none before it is the same
-  is : is_listed wave i ≡ true
-  is = subst (λ k. is_listed wave k ≡ true) at (is_listed_at wave n within)
+  is : has wave i ≡ true
+  is = subst (λ k. has wave k ≡ true) at (has_at wave n within)
 
-  is_new : is_listed (take n wave) i ≡ false
-  is_new = subst (λ k. is_listed (take n wave) k ≡ false) at (not_yet wave rises n within)
+  is_new : has (take n wave) i ≡ false
+  is_new = subst (λ k. has (take n wave) k ≡ false) at (not_yet wave rises n within)
 
-  listed_now : is_listed (take (n + 1) wave) i ≡ true
-  listed_now = is_listed_more wave n i within ∙ ap (λ b. is_listed (take n wave) i || b) (eq-eqb _ _ at) ∙ or_true _
+  listed_now : has (take (n + 1) wave) i ≡ true
+  listed_now = has_more wave n i within ∙ ap (λ b. has (take n wave) i || b) (eq-eqb _ _ at) ∙ or_true _
 
-  listed_as_before : (j : ℕ) → j ≢ i → is_listed (take (n + 1) wave) j ≡ is_listed (take n wave) j
-  listed_as_before j other = is_listed_more wave n j within ∙ ap (λ b. is_listed (take n wave) j || b) (ne_eqb _ _ (λ e. other (sym e ∙ at))) ∙ or_false _
+  listed_as_before : (j : ℕ) → j ≢ i → has (take (n + 1) wave) j ≡ has (take n wave) j
+  listed_as_before j other = has_more wave n j within ∙ ap (λ b. has (take n wave) j || b) (ne_eqb _ _ (λ e. other (sym e ∙ at))) ∙ or_false _
 
   -- one among the first is below this one
   among_below : (m : ℕ) → IsAmong wave n m → m < i
   among_below m a = omega (arith, mono wave rises a.at n a.early within, a.is, at)
 
-  listed_below : (j : ℕ) → is_listed (take n wave) j ≡ true → j < i
+  listed_below : (j : ℕ) → has (take n wave) j ≡ true → j < i
   listed_below j l =
       let p : (k : ℕ) × (k < length (take n wave)) × (get_or (take n wave) k 0 ≡ j) = place_of (take n wave) j l in
       let early : p.0 < n = omega (arith, p.1, length-take n wave) in
@@ -122,8 +122,8 @@ module _ (wave : List ℕ) (rises : IsStrictlyIncreasing wave) (place : ℕ → 
         record { protected = one.protected ∙ so_far.protected; kept = one.kept ∙ so_far.kept })
         (λ j ne. s.elsewhere t j)
 
-    others_more : (result : Result (Unit {0}) StartFail) → StartsAt tells (place i) i before after result → (j : ℕ) → is_listed (take (n + 1) wave) j ≡ false → after j ≡ initial j
-    others_more result a = each (λ j m. is_listed (take (n + 1) wave) j ≡ false → m ≡ initial j) result a (λ isnt. cc (listed_now, isnt)) (λ j ne isnt. s.others j (sym (listed_as_before j ne) ∙ isnt))
+    others_more : (result : Result (Unit {0}) StartFail) → StartsAt tells (place i) i before after result → (j : ℕ) → has (take (n + 1) wave) j ≡ false → after j ≡ initial j
+    others_more result a = each (λ j m. has (take (n + 1) wave) j ≡ false → m ≡ initial j) result a (λ isnt. cc (listed_now, isnt)) (λ j ne isnt. s.others j (sym (listed_as_before j ne) ∙ isnt))
 
     -- a machine that failed before has its cause still
     still_failed : (result : Result (Unit {0}) StartFail) → StartsAt tells (place i) i before after result → (m : ℕ) → IsFailedMachine wave initial before m → IsFailedMachine wave initial after m
@@ -193,7 +193,7 @@ module _ (wave : List ℕ) (rises : IsStrictlyIncreasing wave) (place : ℕ → 
     passed_here f (Some m) (Err (Refused want found)) a t h e u' = absurd (false≢true (sym (le-ltb i m.machine (omega (arith, among_below m.machine h))) ∙ u'))
 
     -- the same of one that was started before
-    passed_there : (f : Option ℕ) (r : Option RefusedMachine) (result : Result (Unit {0}) StartFail) (j : ℕ) → WerePlaceholders (take n wave) f r initial → is_listed (take n wave) j ≡ true → failed_after f i result ≡ None → is_unrefused (refused_after r i result) j ≡ true → (initial j).post.b ≡ Placeholder
+    passed_there : (f : Option ℕ) (r : Option RefusedMachine) (result : Result (Unit {0}) StartFail) (j : ℕ) → WerePlaceholders (take n wave) f r initial → has (take n wave) j ≡ true → failed_after f i result ≡ None → is_unrefused (refused_after r i result) j ≡ true → (initial j).post.b ≡ Placeholder
     passed_there f r (Ok u) j w l e u' = w e j l u'
     passed_there f r (Err Failed) j w l e u' = absurd (some_none _ e)
     passed_there f None (Err (Refused want found)) j w l e u' = w e j l refl
@@ -225,7 +225,7 @@ module _ (wave : List ℕ) (rises : IsStrictlyIncreasing wave) (place : ℕ → 
           rw not_before (tried_failing a)
       step_here (Some m) (Err (Refused want found)) a h = absurd (started (Err (Refused want found)) a)
 
-      step_there : (f : Option ℕ) (result : Result (Unit {0}) StartFail) (j : ℕ) (b : Bool) → is_listed (take n wave) j ≡ b → WaveStep b (is_before f j) (in_bubble (place j)) (initial j) (before j) → WaveStep b (is_before (failed_after f i result) j) (in_bubble (place j)) (initial j) (before j)
+      step_there : (f : Option ℕ) (result : Result (Unit {0}) StartFail) (j : ℕ) (b : Bool) → has (take n wave) j ≡ b → WaveStep b (is_before f j) (in_bubble (place j)) (initial j) (before j) → WaveStep b (is_before (failed_after f i result) j) (in_bubble (place j)) (initial j) (before j)
       step_there f result j false l w = w
       step_there None (Ok u) j true l w = w
       step_there None (Err Failed) j true l w = let is_earlier : nat_lt j i ≡ true = lt-ltb j i (listed_below j l) in rw is_earlier w
@@ -256,7 +256,7 @@ module _ (wave : List ℕ) (rises : IsStrictlyIncreasing wave) (place : ℕ → 
       ];
       step = λ t p j. elim (cases_eq j i) [
         | inl e ↦ rw (e, listed_now) (step_here t p failed result a s.first)
-        | inr ne ↦ rw (a.others j ne, listed_as_before j ne) (step_there t p failed result j (is_listed (take n wave) j) refl (s.step t p j))
+        | inr ne ↦ rw (a.others j ne, listed_as_before j ne) (step_there t p failed result j (has (take n wave) j) refl (s.step t p j))
       ];
       only_failed = λ t p. only_failed_more t p refused result a (s.only_failed t p);
     }

@@ -14,11 +14,12 @@ use Rattle.dr_outside.specs.declared.array.ArrayFail.{ArrayFail}
 use Rattle.dr_outside.specs.declared.array.ArrayFail.TheVariants.{Failed, Wrong}
 use Rattle.dr_outside.specs.declared.array.ArrayCall.TheVariants.{Sync, TestStart}
 use Rattle.dr_outside.specs.BySide.{at, put}
-use Rattle.dr_outside.specs.Pairs.{Frame, frame_of, is_live, is_target, target, half, Drift, Grows, Follows, Made, PairStep, Read, made, is_fit}
-use Rattle.dr_outside.specs.Arrays.{ArrayState, ArrayStep, EachStep, is_listed}
+use Rattle.dr_outside.specs.Pairs.{Frame, frame_of, is_live, is_target, target, half, Drift, Grows, FollowsSource, Made, PairStep, Read, made, is_fit}
+use Rattle.dr_base.specs.Lists.{has}
+use Rattle.dr_outside.specs.Arrays.{ArrayState, ArrayStep, EachStep}
 use Rattle.dr_outside.proofs.Drifts.{Drift-trans}
 use Rattle.dr_meaning.specs.Opening.{IsOpeningPair, AreOpeningPairs}
-use Rattle.dr_meaning.specs.Testing.{DriftsButSnapshot, IsTestedPair}
+use Rattle.dr_meaning.specs.Testing.{DriftsButSnapshot, HasTestSnapshot}
 use Rattle.dr_testing.specs.Storage.{StorageStep, StorageTold, PairDone}
 
 is_from_a : (p : Pair) → IsOpeningPair A p → p.source ≡ A
@@ -34,14 +35,14 @@ record Moves (p q : Pair) : Type 0 where
 moves : (p q : Pair) → IsOpeningPair A p → Drift p q → Moves p q
 moves p q o d =
     let source : Grows p.content.a q.content.a = d.written A (ap (λ (f : Frame). f.writable.a) o.frame) in
-    let went : (q.content.b ≡ p.content.b) ⊎ Follows p.content.b (at p.source q.content) q.content.b = d.replicated B (ap (is_target B) o.frame) in
+    let went : (q.content.b ≡ p.content.b) ⊎ FollowsSource p.content.b (at p.source q.content) q.content.b = d.replicated B (ap (is_target B) o.frame) in
     let end : (q.content.b.line ≡ q.content.a.line) × (p.content.b.writes ≤ q.content.b.writes) × (q.content.b.writes ≤ q.content.a.writes) =
     elim went [
       | inl same ↦
           let writes : q.content.b.writes ≡ p.content.b.writes = ap (λ (c : Content). c.writes) same in
           (ap (λ (c : Content). c.line) same ∙ o.line ∙ sym source.line, omega (arith, o.behind, source.writes), omega (arith, o.behind, source.writes))
       | inr up ↦
-          let up' : Follows p.content.b q.content.a q.content.b = subst (λ (s : Side). Follows p.content.b (at s q.content) q.content.b) (is_from_a p o) up in
+          let up' : FollowsSource p.content.b q.content.a q.content.b = subst (λ (s : Side). FollowsSource p.content.b (at s q.content) q.content.b) (is_from_a p o) up in
           (up'.line, up'.at_least, up'.at_most)
     ] in
     record {
@@ -62,20 +63,20 @@ sync_drifts p o = record {
   snapshot = refl;
   written = written;
   replicated = replicated;
-  frozen = frozen;
+  read_only = read_only;
 }
   where
     written : (side : Side) → at side p.writable ≡ true → Grows (at side p.content) (at side (made Sync p).content)
     written A w = rw (synced_content p o) (record { line = refl; base = refl; writes = omega arith })
     written B w = let no : p.writable.b ≡ false = ap (λ (f : Frame). f.writable.b) o.frame in cc (w, no)
 
-    replicated : (side : Side) → is_target side (frame_of p) ≡ true → (at side (made Sync p).content ≡ at side p.content) ⊎ Follows (at side p.content) (at p.source (made Sync p).content) (at side (made Sync p).content)
+    replicated : (side : Side) → is_target side (frame_of p) ≡ true → (at side (made Sync p).content ≡ at side p.content) ⊎ FollowsSource (at side p.content) (at p.source (made Sync p).content) (at side (made Sync p).content)
     replicated A t = let no : is_target A (frame_of p) ≡ false = ap (is_target A) o.frame in cc (t, no)
     replicated B t = rw (synced_content p o, is_from_a p o) (inr (record { line = refl; at_least = o.behind; at_most = omega arith }))
 
-    frozen : (side : Side) → at side p.writable ≡ false → is_target side (frame_of p) ≡ false → at side (made Sync p).content ≡ at side p.content
-    frozen A w t = let yes : p.writable.a ≡ true = ap (λ (f : Frame). f.writable.a) o.frame in cc (w, yes)
-    frozen B w t = let yes : is_target B (frame_of p) ≡ true = ap (is_target B) o.frame in cc (t, yes)
+    read_only : (side : Side) → at side p.writable ≡ false → is_target side (frame_of p) ≡ false → at side (made Sync p).content ≡ at side p.content
+    read_only A w t = let yes : p.writable.a ≡ true = ap (λ (f : Frame). f.writable.a) o.frame in cc (w, yes)
+    read_only B w t = let yes : is_target B (frame_of p) ≡ true = ap (is_target B) o.frame in cc (t, yes)
 
 -- a pair after replication: it drifted, and its target has at least the writes that its source had
 record Synced (p q : Pair) : Type 0 where
@@ -106,10 +107,10 @@ beside p q d = record {
   snapshot = refl;
   written = d.written;
   replicated = d.replicated;
-  frozen = d.frozen;
+  read_only = d.read_only;
 }
 
-tested : (run : ℕ) (p q r : Pair) → IsOpeningPair A p → Synced p q → Made (TestStart run) q r → IsTestedPair run p r
+tested : (run : ℕ) (p q r : Pair) → IsOpeningPair A p → Synced p q → Made (TestStart run) q r → HasTestSnapshot run p r
 tested run p q r o s t =
     let before : Moves q t.moment = moves q t.moment s.opening t.before in
     let plain : Pair = record r { snapshot = t.moment.snapshot } in
@@ -118,7 +119,7 @@ tested run p q r o s t =
       snapshot = refl;
       written = t.after.written;
       replicated = t.after.replicated;
-      frozen = t.after.frozen;
+      read_only = t.after.read_only;
     } in
     let went : Moves t.moment plain = moves t.moment plain before.opening after in
     let content : Content = at (other t.moment.source) t.moment.content in
@@ -141,36 +142,36 @@ fit_to_start run q o = go q.snapshot q.link (ap (λ (f : Frame). f.snapshot) o.f
     go None link e l = rw l refl
     go (Some s) link e l = cc e
 
-module _ (run : ℕ) (list : List ℕ) (old : ArrayState) (opening : AreOpeningPairs A old) (below : (i : ℕ) → is_listed list i ≡ true → i < old.count) where
+module _ (run : ℕ) (list : List ℕ) (old : ArrayState) (opening : AreOpeningPairs A old) (below : (i : ℕ) → has list i ≡ true → i < old.count) where
   -- one pair after a failed replication: it drifted alone
-  pair_after_sync : (i : ℕ) (listed done : Bool) → is_listed list i ≡ listed → (new : Pair) → PairStep Sync (listed && done) (old.pair i) new → PairDone run (listed && false) (old.pair i) new
+  pair_after_sync : (i : ℕ) (listed done : Bool) → has list i ≡ listed → (new : Pair) → PairStep Sync (listed && done) (old.pair i) new → PairDone run (listed && false) (old.pair i) new
   pair_after_sync i true true l new s = (synced (old.pair i) new (opening i (below i l)) s).drift
   pair_after_sync i true false l new s = s
   pair_after_sync i false done l new s = s
 
   -- replication failed
   pub after_sync : (new : ArrayState) (fail : ArrayFail) → ArrayStep Sync list old new (Err fail) → StorageStep run list old new (Err fail)
-  after_sync new (Failed side) s = record { done = λ group. false; each = λ i. pair_after_sync i (is_listed list i) (s.done (old.group i)) refl (new.pair i) (s.each i) }
+  after_sync new (Failed side) s = record { done = λ group. false; each = λ i. pair_after_sync i (has list i) (s.done (old.group i)) refl (new.pair i) (s.each i) }
   after_sync new (Wrong k half) s =
       let o : IsOpeningPair A (old.pair k) = opening k (below k s.first.listed) in
       let live : is_fit Sync (old.pair k) ≡ true = ap (λ (f : Frame). is_live f.link) o.frame in
       cc (live, s.first.unfit)
 
-  module _ (mid : ArrayState) (same : mid.group ≡ old.group) (sync : EachStep Sync (is_listed list) old.pair mid.pair) where
-    each_synced : (i : ℕ) → is_listed list i ≡ true → Synced (old.pair i) (mid.pair i)
+  module _ (mid : ArrayState) (same : mid.group ≡ old.group) (sync : EachStep Sync (has list) old.pair mid.pair) where
+    each_synced : (i : ℕ) → has list i ≡ true → Synced (old.pair i) (mid.pair i)
     each_synced i l =
         let step : Made Sync (old.pair i) (mid.pair i) = rw l at (sync i) in
         synced (old.pair i) (mid.pair i) (opening i (below i l)) step
 
     -- one pair after the snapshots were taken
-    pair_done : (i : ℕ) (listed : Bool) → is_listed list i ≡ listed → (new : Pair) → PairStep (TestStart run) listed (mid.pair i) new → PairDone run listed (old.pair i) new
+    pair_done : (i : ℕ) (listed : Bool) → has list i ≡ listed → (new : Pair) → PairStep (TestStart run) listed (mid.pair i) new → PairDone run listed (old.pair i) new
     pair_done i true l new s = tested run (old.pair i) (mid.pair i) new (opening i (below i l)) (each_synced i l) s
     pair_done i false l new s =
         let drift : Drift (old.pair i) (mid.pair i) = rw l at (sync i) in
         Drift-trans (old.pair i) (mid.pair i) new drift s
 
     -- one pair after a failed call for the snapshots
-    pair_left : (i : ℕ) (listed done : Bool) → is_listed list i ≡ listed → (new : Pair) → PairStep (TestStart run) (listed && done) (mid.pair i) new → PairDone run (listed && done) (old.pair i) new
+    pair_left : (i : ℕ) (listed done : Bool) → has list i ≡ listed → (new : Pair) → PairStep (TestStart run) (listed && done) (mid.pair i) new → PairDone run (listed && done) (old.pair i) new
     pair_left i true true l new s = tested run (old.pair i) (mid.pair i) new (opening i (below i l)) (each_synced i l) s
     pair_left i true false l new s = Drift-trans (old.pair i) (mid.pair i) new (each_synced i l).drift s
     pair_left i false done l new s =
@@ -179,10 +180,10 @@ module _ (run : ℕ) (list : List ℕ) (old : ArrayState) (opening : AreOpeningP
 
     -- replication was done, and snapshots were taken or not
     pub after_start : (new : ArrayState) (result : Result (Unit {0}) ArrayFail) → ArrayStep (TestStart run) list mid new result → StorageStep run list old new result
-    after_start new (Ok done) s = λ i. pair_done i (is_listed list i) refl (new.pair i) (s i)
+    after_start new (Ok done) s = λ i. pair_done i (has list i) refl (new.pair i) (s i)
     after_start new (Err (Failed side)) s = record {
       done = s.done;
-      each = λ i. subst (λ (group : ℕ → ℕ). PairDone run (is_listed list i && s.done (group i)) (old.pair i) (new.pair i)) same (pair_left i (is_listed list i) (s.done (mid.group i)) refl (new.pair i) (s.each i));
+      each = λ i. subst (λ (group : ℕ → ℕ). PairDone run (has list i && s.done (group i)) (old.pair i) (new.pair i)) same (pair_left i (has list i) (s.done (mid.group i)) refl (new.pair i) (s.each i));
     }
     after_start new (Err (Wrong k half)) s =
         let fit : is_fit (TestStart run) (mid.pair k) ≡ true = fit_to_start run (mid.pair k) (each_synced k s.first.listed).opening in
@@ -227,14 +228,14 @@ told_by_sync run list old new (Wrong k found) s = record {
 }
 
 -- replication was done, and the snapshots were taken, or failed, or were refused
-pub told_by_start : (run : ℕ) (list : List ℕ) (old mid new : ArrayState) → EachStep Sync (is_listed list) old.pair mid.pair → (result : Result (Unit {0}) ArrayFail) → ArrayStep (TestStart run) list mid new result → StorageTold run list old.pair result
+pub told_by_start : (run : ℕ) (list : List ℕ) (old mid new : ArrayState) → EachStep Sync (has list) old.pair mid.pair → (result : Result (Unit {0}) ArrayFail) → ArrayStep (TestStart run) list mid new result → StorageTold run list old.pair result
 told_by_start run list old mid new sync (Ok done) s = λ i listed.
-    let alike : Alike (old.pair i) (mid.pair i) = alike_after_sync (is_listed list i) (old.pair i) (mid.pair i) (sync i) in
+    let alike : Alike (old.pair i) (mid.pair i) = alike_after_sync (has list i) (old.pair i) (mid.pair i) (sync i) in
     let made : Made (TestStart run) (mid.pair i) (new.pair i) = rw listed at (s i) in
     sym (fits_alike run (old.pair i) (mid.pair i) alike) ∙ made.fit
 told_by_start run list old mid new sync (Err (Failed side)) s = tt
 told_by_start run list old mid new sync (Err (Wrong k found)) s =
-    let alike : Alike (old.pair k) (mid.pair k) = alike_after_sync (is_listed list k) (old.pair k) (mid.pair k) (sync k) in
+    let alike : Alike (old.pair k) (mid.pair k) = alike_after_sync (has list k) (old.pair k) (mid.pair k) (sync k) in
     record {
       unfit = sym (fits_alike run (old.pair k) (mid.pair k) alike) ∙ s.first.unfit;
       shown = shown_before (old.pair k) (mid.pair k) (new.pair k) alike found s.read;

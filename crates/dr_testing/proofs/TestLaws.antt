@@ -15,17 +15,18 @@ use Rattle.dr_plan.specs.Orders.{AreWaves, IsShallower}
 use Rattle.dr_plan.specs.Waves.{waves_of}
 use Rattle.dr_outside.specs.declared.pair.Pair.{Pair}
 use Rattle.dr_outside.specs.declared.pair.Half.{Half}
-use Rattle.dr_outside.specs.Arrays.{ArrayState, is_listed}
+use Rattle.dr_base.specs.Lists.{has}
+use Rattle.dr_outside.specs.Arrays.{ArrayState}
 use Rattle.dr_outside.specs.declared.machine.Post.TheVariants.{Placeholder, Ready}
 use Rattle.dr_outside.specs.Machines.{PortState}
 use Rattle.dr_meaning.specs.Opening.{AreOpeningMachines}
-use Rattle.dr_meaning.specs.StartUp.{StartedInOrder, is_started}
+use Rattle.dr_meaning.specs.StartUp.{PlanInOrder, is_started}
 use Rattle.dr_meaning.specs.Testing.{DriftsButSnapshot}
 use Rattle.dr_testing.specs.declared.start_up.StartEnd.{StartEnd}
 use Rattle.dr_testing.specs.declared.start_up.StartEnd.TheVariants.{Done as AllDone, Failed, Refused}
 use Rattle.dr_testing.specs.Placing.{wanted_place, wanted_at, wave_of, is_planned}
 use Rattle.dr_testing.specs.Starts.{ChangesAtB, StandsAsWanted, FailedAt, TriedAt, AllCause, AllTold, AllStep, AllPlaceholders}
-use Rattle.dr_testing.specs.Tests.{IsTestable, Site, RunCause, MachinesDone, AreInOrder, AreTestedPairs, AreTestedByGroup, KeepsPairs, KeepsMachines, PairsDone, IsToldPair, opening_code, refused_code, answer_of}
+use Rattle.dr_testing.specs.Tests.{IsTestable, Outside, RunCause, MachinesDone, AreInOrder, AreTestedPairs, AreTestedByGroup, KeepsPairs, KeepsMachines, PairsDone, IsToldPair, opening_code, refused_code, answer_of}
 use Rattle.dr_testing.specs.Storage.{AreFit, PairDone, SomeSnapshots, IsUnfitPair}
 use Rattle.dr_testing.proofs.PlanLaws.{IsRowOf, row_of, planned_of, planned_in_wave, in_wave_planned, earlier_wave}
 use Rattle.dr_testing.proofs.StorageLaws.{beside}
@@ -102,7 +103,7 @@ module _ (estate : Estate) (plan : Plan) (testable : IsTestable estate plan) (wa
       ]
 
       -- what is so of waves is so of priorities and dependencies
-      in_order : ((i j : ℕ) → is_planned plan i ≡ true → is_planned plan j ≡ true → wave_of waves i < wave_of waves j → is_started (new j).post.b ≡ true → (new i).post.b ≡ Ready (wanted_at estate i)) → StartedInOrder B (wanted_at estate) plan new
+      in_order : ((i j : ℕ) → is_planned plan i ≡ true → is_planned plan j ≡ true → wave_of waves i < wave_of waves j → is_started (new j).post.b ≡ true → (new i).post.b ≡ Ready (wanted_at estate i)) → PlanInOrder B (wanted_at estate) plan new
       in_order ready = record {
         dependencies = λ m k c started after.
             let shallower : IsShallower plan m.priority m.depth k = testable.ordered.dependencies m k c after in
@@ -125,7 +126,7 @@ module _ (estate : Estate) (plan : Plan) (testable : IsTestable estate plan) (wa
 
 module _ (plan : Plan) (old new : ℕ → Pair) where
   -- the snapshots were taken
-  pub pairs_tested : ((i : ℕ) → PairDone 1 (is_listed plan.pairs i) (old i) (new i)) → AreTestedPairs plan old new
+  pub pairs_tested : ((i : ℕ) → PairDone 1 (has plan.pairs i) (old i) (new i)) → AreTestedPairs plan old new
   pairs_tested done = record {
     tested = λ i l. rw l at (done i);
     others = λ i l. rw l at (done i);
@@ -135,13 +136,13 @@ module _ (plan : Plan) (old new : ℕ → Pair) where
   done_keeps true p q done = done.rest
   done_keeps false p q drift = beside p q drift
 
-  pub kept_by_done : ((i : ℕ) → PairDone 1 (is_listed plan.pairs i) (old i) (new i)) → KeepsPairs plan old new
-  kept_by_done done = record { all = λ i. done_keeps (is_listed plan.pairs i) (old i) (new i) (done i); others = (pairs_tested done).others }
+  pub kept_by_done : ((i : ℕ) → PairDone 1 (has plan.pairs i) (old i) (new i)) → KeepsPairs plan old new
+  kept_by_done done = record { all = λ i. done_keeps (has plan.pairs i) (old i) (new i) (done i); others = (pairs_tested done).others }
 
   -- a call failed
   pub kept_by_some : (group : ℕ → ℕ) → SomeSnapshots 1 plan.pairs group old new → KeepsPairs plan old new
   kept_by_some group some = record {
-    all = λ i. done_keeps (is_listed plan.pairs i && some.done (group i)) (old i) (new i) (some.each i);
+    all = λ i. done_keeps (has plan.pairs i && some.done (group i)) (old i) (new i) (some.each i);
     others = λ i l. rw l at (some.each i);
   }
 
@@ -168,7 +169,7 @@ told_pair old found u = record {
   is = ap refused_code u.shown;
 }
 
-module _ (array_tells port_tells : Type 0) (estate : Estate) (plan : Plan) (testable : IsTestable estate plan) (are : AreWaves plan (waves_of plan)) (old new : Site) (enough : length estate.machines ≤ old.slots) where
+module _ (array_tells port_tells : Type 0) (estate : Estate) (plan : Plan) (testable : IsTestable estate plan) (are : AreWaves plan (waves_of plan)) (old new : Outside) (enough : length estate.machines ≤ old.slots) where
   -- the cause of a test that came to the machines
   pub machine_cause : (end : StartEnd) → AllCause (waves_of plan) (wanted_place estate) old.machine new.machine end → (port_tells → AllTold (waves_of plan) old.machine end) → (port_tells → AllPlaceholders (waves_of plan) old.machine → AllStep (waves_of plan) (wanted_at estate) old.machine new.machine end)
       → (array_tells → AreFit 1 plan.pairs old.array.pair) → RunCause array_tells port_tells estate plan old new (answer_of end)

@@ -9,7 +9,7 @@ use Rattle.dr_base.specs.declared.placement.Placement.{Placement}
 use Rattle.dr_inventory.specs.declared.estate.Estate.{Estate}
 use Rattle.dr_plan.specs.declared.plan.Wave.{Wave}
 use Rattle.dr_outside.specs.declared.machine.Post.TheVariants.{Placeholder, Ready}
-use Rattle.dr_outside.specs.Arrays.{is_listed}
+use Rattle.dr_base.specs.Lists.{has}
 use Rattle.dr_outside.specs.Machines.{PortState}
 use Rattle.dr_meaning.specs.Testing.{in_bubble}
 use Rattle.dr_testing.specs.declared.start_up.RefusedMachine.{RefusedMachine}
@@ -30,19 +30,19 @@ pub record StartedBelow (waves : List Wave) (place : ℕ → Placement) (tells :
 pub record WaveDone (wave : List ℕ) (place : ℕ → Placement) (tells : Type 0) (first_failed : Option ℕ) (first_refused : Option RefusedMachine) (before now : ℕ → PortState) : Type 0 where
   pub later : (i : ℕ) → NoneFalls (before i) (now i)
   pub elsewhere : tells → (i : ℕ) → ChangesAtB (before i) (now i)
-  pub others : (i : ℕ) → is_listed wave i ≡ false → now i ≡ before i
+  pub others : (i : ℕ) → has wave i ≡ false → now i ≡ before i
   pub failed : IfSome first_failed (IsFailedMachine wave before now)
   pub refused : IfSome first_refused (IsRefusedMachine wave place)
   pub told : tells → IfSome first_refused (IsToldMachine before)
   pub passed : tells → WerePlaceholders wave first_failed first_refused before
-  pub step : tells → EachPlaceholder wave before → (i : ℕ) → WaveStep (is_listed wave i) (is_before first_failed i) (in_bubble (place i)) (before i) (now i)
+  pub step : tells → EachPlaceholder wave before → (i : ℕ) → WaveStep (has wave i) (is_before first_failed i) (in_bubble (place i)) (before i) (now i)
   pub only_failed : tells → EachPlaceholder wave before → first_refused ≡ None
 
 -- a wave has the machines whose wave it is, and no others
 pub record IsWaveAt (waves : List Wave) (n : ℕ) (wave : List ℕ) : Type 0 where
   pub within : n < length waves
-  pub on : (i : ℕ) → wave_of waves i ≡ n → is_listed wave i ≡ true
-  pub back : (i : ℕ) → is_listed wave i ≡ true → wave_of waves i ≡ n
+  pub on : (i : ℕ) → wave_of waves i ≡ n → has wave i ≡ true
+  pub back : (i : ℕ) → has wave i ≡ true → wave_of waves i ≡ n
 
 -- before the first wave
 pub none_started : (waves : List Wave) (place : ℕ → Placement) (tells : Type 0) (initial : ℕ → PortState) → StartedBelow waves place tells 0 initial initial
@@ -55,8 +55,8 @@ none_started waves place tells initial = record {
 }
 
 module _ (waves : List Wave) (place : ℕ → Placement) (tells : Type 0) (n : ℕ) (wave : List ℕ) (it : IsWaveAt waves n wave) (initial before now : ℕ → PortState) (s : StartedBelow waves place tells n initial before) where
-  off : (i : ℕ) → wave_of waves i ≢ n → is_listed wave i ≡ false
-  off i ne = elim (cases_Bool (is_listed wave i)) [
+  off : (i : ℕ) → wave_of waves i ≢ n → has wave i ≡ false
+  off i ne = elim (cases_Bool (has wave i)) [
     | inl listed ↦ absurd (ne (it.back i listed))
     | inr isnt ↦ isnt
   ]
@@ -83,8 +83,8 @@ module _ (waves : List Wave) (place : ℕ → Placement) (tells : Type 0) (n : �
 
     -- each machine of the wave was a placeholder
     placeholders : AllPlaceholders waves initial → EachPlaceholder wave before
-    placeholders p i has =
-        let is : wave_of waves i ≡ n = it.back i has in
+    placeholders p i listed =
+        let is : wave_of waves i ≡ n = it.back i listed in
         rw (s.above i (omega (arith, is))) (p i (omega (arith, is, it.within)))
 
     -- a machine of an earlier wave is ready still
@@ -168,6 +168,6 @@ module _ (waves : List Wave) (place : ℕ → Placement) (tells : Type 0) (n : �
 pub wave_at : (estate : Estate) (waves : List Wave) → AreStartable estate waves → (n : ℕ) (d : Wave) → n < length waves → IsWaveAt waves n (get_or waves n d).machines
 wave_at estate waves startable n d within = record {
   within = within;
-  on = λ i e. subst (λ k. is_listed (get_or waves k d).machines i ≡ true) e (passes_at_first (λ w. is_listed w.machines i) waves d (omega (arith, e, within)));
+  on = λ i e. subst (λ k. has (get_or waves k d).machines i ≡ true) e (passes_at_first (λ w. has w.machines i) waves d (omega (arith, e, within)));
   back = λ i l. startable.apart n i (get_or waves n d) (slice_get-get_or waves n d within) l;
 }

@@ -236,7 +236,7 @@ module _ (plan : Plan) (ordered : IsOrdered plan) where
             (reach (wave_at ms m.priority) (above (map (λ x. x.depth) ms)) 0 m.depth _ (omega arith) (omega (arith, below_above ms m c)) (has_wave m.priority m.depth (machines_at ms m.priority m.depth) m.machine there));
         same_priority = refl;
         same_depth = refl;
-        has = there;
+        of_wave = there;
       }
 
 -- the waves of a plan

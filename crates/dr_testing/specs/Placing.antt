@@ -10,16 +10,13 @@ use Rattle.dr_mappings.specs.Placements.{place_of}
 use Rattle.dr_plan.specs.declared.plan.Plan.{Plan}
 use Rattle.dr_plan.specs.declared.plan.Wave.{Wave}
 use Rattle.dr_outside.specs.declared.machine.Placed.{Placed}
-use Rattle.dr_outside.specs.Arrays.{is_listed}
+use Rattle.dr_base.specs.Lists.{has}
+use Rattle.dr_meaning.specs.Expected.{no_place}
 use Rattle.dr_meaning.specs.Testing.{in_bubble}
-
--- what stands in for a placement where there is none
-abbrev pub nowhere : Placement
-nowhere = record { network = []; folder = []; pool = [] }
 
 -- where a test runs a machine: at B, in a bubble, where A is protected
 abbrev pub wanted_place : Estate → ℕ → Placement
-wanted_place estate machine = result_unwrap_or (place_of estate machine A B true) nowhere
+wanted_place estate machine = result_unwrap_or (place_of estate machine A B true) no_place
 
 -- the same, with its bubble
 abbrev pub wanted_at : Estate → ℕ → Placed
@@ -35,7 +32,7 @@ is_planned plan machine = list_any (λ m. m.machine == machine) plan.machines
 
 -- the number of the first wave that has this machine, or how many waves there are
 abbrev pub wave_of : List Wave → ℕ → ℕ
-wave_of waves machine = position_or_len (λ w. is_listed w.machines machine) waves
+wave_of waves machine = position_or_len (λ w. has w.machines machine) waves
 
 -- machines that can be started one after another: they ascend, are the estate's, and each has its place
 pub record IsStartable (estate : Estate) (machines : List ℕ) : Type 0 where
@@ -46,4 +43,4 @@ pub record IsStartable (estate : Estate) (machines : List ℕ) : Type 0 where
 -- each wave can be started, and no machine is in two
 pub record AreStartable (estate : Estate) (waves : List Wave) : Type 0 where
   pub each : All (λ w. IsStartable estate w.machines) waves
-  pub apart : (n machine : ℕ) (w : Wave) → slice_get waves n ≡ Some w → is_listed w.machines machine ≡ true → wave_of waves machine ≡ n
+  pub apart : (n machine : ℕ) (w : Wave) → slice_get waves n ≡ Some w → has w.machines machine ≡ true → wave_of waves machine ≡ n

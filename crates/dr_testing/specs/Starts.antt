@@ -8,7 +8,7 @@ use Rattle.dr_plan.specs.declared.plan.Wave.{Wave}
 use Rattle.dr_outside.specs.declared.machine.Placed.{Placed}
 use Rattle.dr_outside.specs.declared.machine.Post.{Post}
 use Rattle.dr_outside.specs.declared.machine.Post.TheVariants.{Placeholder, Off, On, Ready}
-use Rattle.dr_outside.specs.Arrays.{is_listed}
+use Rattle.dr_base.specs.Lists.{has}
 use Rattle.dr_outside.specs.Machines.{PortState}
 use Rattle.dr_meaning.specs.Codes.{post_code, told_by_refusal}
 use Rattle.dr_meaning.specs.Testing.{in_bubble}
@@ -89,20 +89,20 @@ pub record Tried (wanted : Placed) (old new : PortState) : Type 0 where
 
 -- each machine of a wave is a placeholder at B
 abbrev pub EachPlaceholder : List ℕ → (ℕ → PortState) → Type 0
-EachPlaceholder wave machine = (i : ℕ) → is_listed wave i ≡ true → (machine i).post.b ≡ Placeholder
+EachPlaceholder wave machine = (i : ℕ) → has wave i ≡ true → (machine i).post.b ≡ Placeholder
 
 -- where none of a wave failed, each machine of it before the first refused one was a placeholder at B
 abbrev pub WerePlaceholders : List ℕ → Option ℕ → Option RefusedMachine → (ℕ → PortState) → Type 0
-WerePlaceholders wave failed refused machine = failed ≡ None → (i : ℕ) → is_listed wave i ≡ true → is_unrefused refused i ≡ true → (machine i).post.b ≡ Placeholder
+WerePlaceholders wave failed refused machine = failed ≡ None → (i : ℕ) → has wave i ≡ true → is_unrefused refused i ≡ true → (machine i).post.b ≡ Placeholder
 
 -- the machine that failed: one of the wave, whose count rose
 pub record IsFailedMachine (wave : List ℕ) (old new : ℕ → PortState) (i : ℕ) : Type 0 where
-  pub listed : is_listed wave i ≡ true
+  pub listed : has wave i ≡ true
   pub rose : Rose ((old i).faults B) ((new i).faults B)
 
 -- a machine that was refused: one of the wave, with the codes of the refusal
 pub record IsRefusedMachine (wave : List ℕ) (place : ℕ → Placement) (refused : RefusedMachine) : Type 0 where
-  pub listed : is_listed wave refused.machine ≡ true
+  pub listed : has wave refused.machine ≡ true
   pub codes : IsRefusal (place refused.machine) refused.wanted refused.found
 
 -- a refused machine is told with the codes of its own post at B before

@@ -10,7 +10,7 @@ use Rattle.dr_base.specs.declared.answer.Thing.TheVariants.{Pair as PairThing, M
 use Rattle.dr_base.specs.declared.refusal.Refusal.TheVariants.{NoSlot}
 use Rattle.dr_base.specs.declared.refusal.SlotKind.TheVariants.{Machines, Pairs}
 use Rattle.dr_inventory.specs.declared.estate.Estate.{Estate}
-use Rattle.dr_inventory.specs.Sound.{IsSound}
+use Rattle.dr_inventory.specs.Sound.{IsSoundEstate}
 use Rattle.dr_plan.specs.declared.plan.Plan.{Plan}
 use Rattle.dr_plan.specs.Orders.{IsOrdered}
 use Rattle.dr_plan.specs.Waves.{waves_of}
@@ -19,12 +19,13 @@ use Rattle.dr_outside.specs.declared.pair.Half.{Half}
 use Rattle.dr_outside.specs.declared.pair.Pair.{Pair}
 use Rattle.dr_outside.specs.declared.array.ArrayCall.TheVariants.{TestStart}
 use Rattle.dr_outside.specs.Pairs.{Drift, half, target, is_fit}
-use Rattle.dr_outside.specs.Arrays.{ArrayState, IsPairList, is_listed}
+use Rattle.dr_base.specs.Lists.{has}
+use Rattle.dr_outside.specs.Arrays.{ArrayState, IsPairList}
 use Rattle.dr_outside.specs.Machines.{PortState, machine_at}
 use Rattle.dr_meaning.specs.Codes.{bit, half_code, told_by_refusal}
 use Rattle.dr_meaning.specs.Opening.{AreOpeningPairs, AreOpeningMachines}
-use Rattle.dr_meaning.specs.StartUp.{StartedInOrder}
-use Rattle.dr_meaning.specs.Testing.{DriftsButSnapshot, IsTestedPair, IsTestedMachine}
+use Rattle.dr_meaning.specs.StartUp.{PlanInOrder}
+use Rattle.dr_meaning.specs.Testing.{DriftsButSnapshot, HasTestSnapshot, IsTestedMachine}
 use Rattle.dr_testing.specs.declared.start_up.StartEnd.{StartEnd}
 use Rattle.dr_testing.specs.declared.start_up.StartEnd.TheVariants.{Done as EndDone, Failed as EndFailed, Refused as EndRefused}
 use Rattle.dr_testing.specs.Storage.{AreFit}
@@ -33,41 +34,41 @@ use Rattle.dr_testing.specs.Starts.{ChangesAtB, StandsAsWanted, FailedAt, TriedA
 
 -- A plan of this estate that a test can run: its pairs and its machines are the estate's and ascend, dependencies come before their machines, and each machine has its place.
 pub record IsTestable (estate : Estate) (plan : Plan) : Type 0 where
-  pub sound : IsSound estate
+  pub sound : IsSoundEstate estate
   pub ordered : IsOrdered plan
   pub pairs : IsPairList (length estate.devices) plan.pairs
   pub machines : All (λ m. m.machine < length estate.machines) plan.machines
   pub placed : All (λ m. IsPlaced estate m.machine) plan.machines
 
 -- the array and the machines at one moment; how many machines have a port
-pub record Site : Type 0 where
+pub record Outside : Type 0 where
   pub array : ArrayState
   pub slots : ℕ
   pub machine : ℕ → PortState
 
 -- the site of an array and ports
-abbrev pub site : {A P : Type 0} → (A → ArrayState) → (P → PortState) → A → List P → Site
-site array_state port_state array ports =
+abbrev pub outside : {A P : Type 0} → (A → ArrayState) → (P → PortState) → A → List P → Outside
+outside array_state port_state array ports =
     record { array = array_state array; slots = length ports; machine = machine_at port_state ports }
 
 -- the pairs are as before any run, where A is protected
-abbrev pub HasOpeningPairs : Site → Type 0
-HasOpeningPairs site = AreOpeningPairs A site.array
+abbrev pub HasOpeningPairs : Outside → Type 0
+HasOpeningPairs outside = AreOpeningPairs A outside.array
 
 -- the machines are as before any run, where A is protected
-abbrev pub HasOpeningMachines : Site → Type 0
-HasOpeningMachines site = AreOpeningMachines A site.slots site.machine
+abbrev pub HasOpeningMachines : Outside → Type 0
+HasOpeningMachines outside = AreOpeningMachines A outside.slots outside.machine
 
 -- after a finished test: the plan's pairs have the snapshots of run 1, and all others drifted
 pub record AreTestedPairs (plan : Plan) (old new : ℕ → Pair) : Type 0 where
-  pub tested : (i : ℕ) → is_listed plan.pairs i ≡ true → IsTestedPair 1 (old i) (new i)
-  pub others : (i : ℕ) → is_listed plan.pairs i ≡ false → Drift (old i) (new i)
+  pub tested : (i : ℕ) → has plan.pairs i ≡ true → HasTestSnapshot 1 (old i) (new i)
+  pub others : (i : ℕ) → has plan.pairs i ≡ false → Drift (old i) (new i)
 
 -- after a failed call of the array: each consistency group of the plan's pairs has the snapshots of run 1, or drifted alone
 pub record AreTestedByGroup (plan : Plan) (group : ℕ → ℕ) (old new : ℕ → Pair) : Type 0 where
   pub done : ℕ → Bool
-  pub tested : (i : ℕ) → is_listed plan.pairs i ≡ true → done (group i) ≡ true → IsTestedPair 1 (old i) (new i)
-  pub left : (i : ℕ) → is_listed plan.pairs i ≡ true → done (group i) ≡ false → Drift (old i) (new i)
+  pub tested : (i : ℕ) → has plan.pairs i ≡ true → done (group i) ≡ true → HasTestSnapshot 1 (old i) (new i)
+  pub left : (i : ℕ) → has plan.pairs i ≡ true → done (group i) ≡ false → Drift (old i) (new i)
 
 -- after a finished test: the plan's machines are ready at B, each in a bubble at its own placement, and all others are as they were
 pub record AreTestedMachines (estate : Estate) (plan : Plan) (old new : ℕ → PortState) : Type 0 where
@@ -77,7 +78,7 @@ pub record AreTestedMachines (estate : Estate) (plan : Plan) (old new : ℕ → 
 -- at every exit: each pair differs by drift and by its snapshot alone, one that isn't the plan's by drift alone
 pub record KeepsPairs (plan : Plan) (old new : ℕ → Pair) : Type 0 where
   pub all : (i : ℕ) → DriftsButSnapshot (old i) (new i)
-  pub others : (i : ℕ) → is_listed plan.pairs i ≡ false → Drift (old i) (new i)
+  pub others : (i : ℕ) → has plan.pairs i ≡ false → Drift (old i) (new i)
 
 -- at every exit: of each machine only the post at B differs, and one that isn't the plan's is as it was
 pub record KeepsMachines (plan : Plan) (old new : ℕ → PortState) : Type 0 where
@@ -87,7 +88,7 @@ pub record KeepsMachines (plan : Plan) (old new : ℕ → PortState) : Type 0 wh
 -- at every exit: the plan's machines are placeholders at B or stand there as wanted, and where one was started, each of its dependencies and each machine of an earlier priority is ready
 pub record AreInOrder (estate : Estate) (plan : Plan) (machine : ℕ → PortState) : Type 0 where
   pub stand : (i : ℕ) → is_planned plan i ≡ true → StandsAsWanted (wanted_at estate i) (machine i).post.b
-  pub order : StartedInOrder B (wanted_at estate) plan machine
+  pub order : PlanInOrder B (wanted_at estate) plan machine
 
 -- each machine of the plan is a placeholder at B
 abbrev pub ArePlaceholders : Plan → (ℕ → PortState) → Type 0
@@ -103,7 +104,7 @@ refused_code half = told_by_refusal (half_code (other half.source) (is_none half
 
 -- a pair of the plan that the array refused, with the codes of its target's half
 pub record IsRefusedPair (plan : Plan) (pair wanted found : ℕ) : Type 0 where
-  pub listed : is_listed plan.pairs pair ≡ true
+  pub listed : has plan.pairs pair ≡ true
   pub half : Half
   pub want : wanted ≡ opening_code (other half.source)
   pub is : found ≡ refused_code half
@@ -142,7 +143,7 @@ answer_of (EndFailed machine) = PortFault machine
 answer_of (EndRefused refused) = Foreign (MachineThing refused.machine) refused.wanted refused.found
 
 -- when a test that called the array gives each answer
-abbrev pub RunCause : (array_tells port_tells : Type 0) → Estate → Plan → Site → Site → Answer → Type 0
+abbrev pub RunCause : (array_tells port_tells : Type 0) → Estate → Plan → Outside → Outside → Answer → Type 0
 RunCause array_tells port_tells estate plan old new (Done run) = (run ≡ 1) × (port_tells → ArePlaceholders plan old.machine) × (array_tells → AreFit 1 plan.pairs old.array.pair)
 RunCause array_tells port_tells estate plan old new (ArrayFault side) = Rose (old.array.faults side) (new.array.faults side) × (new.machine ≡ old.machine)
 RunCause array_tells port_tells estate plan old new (PortFault machine) = IsPortFault port_tells old.slots estate plan old.machine new.machine machine
@@ -153,12 +154,12 @@ RunCause array_tells port_tells estate plan old new (Foreign (MachineThing machi
 RunCause array_tells port_tells estate plan old new _ = ⊥
 
 -- the site has a port for each machine of the estate, and each of its pairs
-pub record HasSlots (estate : Estate) (site : Site) : Type 0 where
-  pub machines : length estate.machines ≤ site.slots
-  pub pairs : length estate.devices ≤ site.array.count
+pub record HasSlots (estate : Estate) (outside : Outside) : Type 0 where
+  pub machines : length estate.machines ≤ outside.slots
+  pub pairs : length estate.devices ≤ outside.array.count
 
 -- When a test of a plan gives each answer: it is refused where the site has too few machines for the estate, then where it has too few pairs; otherwise it lacks memory, or calls the array.
-abbrev pub TestCause : (array_tells port_tells : Type 0) → Estate → Plan → Site → Site → Answer → Type 0
+abbrev pub TestCause : (array_tells port_tells : Type 0) → Estate → Plan → Outside → Outside → Answer → Type 0
 TestCause array_tells port_tells estate plan old new (Refused (NoSlot Machines have need)) =
     (have ≡ old.slots) × (need ≡ length estate.machines) × (have < need)
 TestCause array_tells port_tells estate plan old new (Refused (NoSlot Pairs have need)) =
@@ -180,7 +181,7 @@ MachinesDone estate plan old new (Done run) = AreTestedMachines estate plan old 
 MachinesDone estate plan old new _ = Unit {0}
 
 -- these answers come before anything is called
-abbrev pub CallsNothing : Site → Site → Answer → Type 0
+abbrev pub CallsNothing : Outside → Outside → Answer → Type 0
 CallsNothing old new (Refused refusal) = new ≡ old
 CallsNothing old new NoMemory = new ≡ old
 CallsNothing old new _ = Unit {0}

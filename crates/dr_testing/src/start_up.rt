@@ -1,8 +1,8 @@
 ghost use Rattle.std.specs.Prelude.{◌≡◌, ◌≢◌, ◌+◌, ◌<◌, ◌≤◌, ◌==◌, ℕ, Bool, true, false, length, slice_index, option_copied, unwrap_or, IfSome, IsNone, Some, None};
 ghost use Rattle.dr_base.specs.declared.side.Side.TheVariants.{B};
-ghost use Rattle.dr_inventory.specs.Sound.{IsSound};
+ghost use Rattle.dr_inventory.specs.Sound.{IsSoundEstate};
 ghost use Rattle.dr_outside.specs.declared.machine.Post.TheVariants.{Placeholder};
-ghost use Rattle.dr_outside.specs.Arrays.{is_listed};
+ghost use Rattle.dr_base.specs.Lists.{has};
 ghost use Rattle.dr_outside.specs.Machines.{machine_at};
 ghost use Rattle.dr_meaning.specs.Codes.{post_code, told_by_refusal};
 ghost use Rattle.dr_meaning.specs.Testing.{in_bubble};
@@ -67,7 +67,7 @@ pub(crate) fn start_machine<P: Port>(port: &mut P, place: &Placement) -> Result<
 
 // Where the test runs a machine.
 fn test_placement(estate: &Estate, machine: u32) -> Placement
-    requires sound { IsSound estate.now }
+    requires sound { IsSoundEstate estate.now }
     requires declared { machine < length estate.now.machines }
     requires placed { IsPlaced estate.now machine }
     ensures { result ≡ wanted_place estate.now machine }
@@ -140,12 +140,12 @@ impl Unstarted {
 /// Tries to start each machine of one wave.
 pub(crate) fn start_wave<P: Port>(ports: &mut [P], estate: &Estate, wave: &[u32]) -> Unstarted
     requires enough { length estate.now.machines ≤ length ports.old }
-    requires sound { IsSound estate.now }
+    requires sound { IsSoundEstate estate.now }
     requires startable { IsStartable estate.now wave.now }
     ensures later { (i : ℕ) → NoneFalls (machine_at P.state ports.old i) (machine_at P.state ports.new i) }
     ensures elsewhere { P.tells → (i : ℕ)
         → ChangesAtB (machine_at P.state ports.old i) (machine_at P.state ports.new i) }
-    ensures others { (i : ℕ) → is_listed wave.now i ≡ false
+    ensures others { (i : ℕ) → has wave.now i ≡ false
         → machine_at P.state ports.new i ≡ machine_at P.state ports.old i }
     ensures failed { IfSome result.failed
         (IsFailedMachine wave.now (machine_at P.state ports.old) (machine_at P.state ports.new)) }
@@ -154,7 +154,7 @@ pub(crate) fn start_wave<P: Port>(ports: &mut [P], estate: &Estate, wave: &[u32]
     ensures passed { P.tells
         → WerePlaceholders wave.now result.failed result.refused (machine_at P.state ports.old) }
     ensures step { P.tells → EachPlaceholder wave.now (machine_at P.state ports.old)
-        → (i : ℕ) → WaveStep (is_listed wave.now i) (is_before result.failed i)
+        → (i : ℕ) → WaveStep (has wave.now i) (is_before result.failed i)
         (wanted_at estate.now i)
         (machine_at P.state ports.old i) (machine_at P.state ports.new i) }
     ensures only_failed { P.tells → EachPlaceholder wave.now (machine_at P.state ports.old)
@@ -186,7 +186,7 @@ pub(crate) enum StartEnd {
 /// Starts the machines wave by wave, up to the first wave of which one wasn't started.
 pub(crate) fn start_all<P: Port>(ports: &mut [P], estate: &Estate, waves: &[Wave]) -> StartEnd
     requires enough { length estate.now.machines ≤ length ports.old }
-    requires sound { IsSound estate.now }
+    requires sound { IsSoundEstate estate.now }
     requires startable { AreStartable estate.now waves.now }
     ensures later { (i : ℕ) → NoneFalls (machine_at P.state ports.old i) (machine_at P.state ports.new i) }
     ensures elsewhere { P.tells → (i : ℕ)

@@ -5,7 +5,7 @@ ghost use Rattle.dr_outside.specs.Machines.{machine_at};
 ghost use Rattle.dr_meaning.specs.Opening.{AreOpeningPairs, AreOpeningMachines};
 ghost use Rattle.dr_plan.specs.Orders.{AreWaves};
 ghost use Rattle.dr_plan.specs.Waves.{waves_of};
-ghost use Rattle.dr_testing.specs.Tests.{site, IsTestable, TestCause, RunCause, CallsNothing, HasSlots, PairsDone, MachinesDone, KeepsPairs, KeepsMachines, AreInOrder, opening_code, refused_code, answer_of};
+ghost use Rattle.dr_testing.specs.Tests.{outside, IsTestable, TestCause, RunCause, CallsNothing, HasSlots, PairsDone, MachinesDone, KeepsPairs, KeepsMachines, AreInOrder, opening_code, refused_code, answer_of};
 
 use crate::start_up::{StartEnd, start_all};
 use crate::storage::snapshot_pairs;
@@ -66,12 +66,12 @@ fn run_test<A: Array, P: Port>(
     waves: &[Wave],
 ) -> Answer
     requires testable { IsTestable estate.now plan.now }
-    requires slots { HasSlots estate.now (site A.state P.state array.old ports.old) }
+    requires slots { HasSlots estate.now (outside A.state P.state array.old ports.old) }
     requires waves { waves.now ≡ waves_of plan.now }
     requires in_order { AreWaves plan.now waves.now }
     ensures cause { RunCause A.tells P.tells estate.now plan.now
-        (site A.state P.state array.old ports.old)
-        (site A.state P.state array.new ports.new) result }
+        (outside A.state P.state array.old ports.old)
+        (outside A.state P.state array.new ports.new) result }
     ensures pairs_done { A.tells → AreOpeningPairs SideA (A.state array.old)
         → PairsDone plan.now (A.state array.old) (A.state array.new) result }
     ensures no_pairs { length plan.now.pairs ≡ 0 → A.state array.new ≡ A.state array.old }
@@ -111,10 +111,10 @@ pub fn test_plan<A: Array, P: Port>(
 ) -> Answer
     requires { IsTestable estate.now plan.now }
     ensures cause { TestCause A.tells P.tells estate.now plan.now
-        (site A.state P.state array.old ports.old)
-        (site A.state P.state array.new ports.new) result }
-    ensures nothing { CallsNothing (site A.state P.state array.old ports.old)
-        (site A.state P.state array.new ports.new) result }
+        (outside A.state P.state array.old ports.old)
+        (outside A.state P.state array.new ports.new) result }
+    ensures nothing { CallsNothing (outside A.state P.state array.old ports.old)
+        (outside A.state P.state array.new ports.new) result }
     ensures pairs_done { A.tells → AreOpeningPairs SideA (A.state array.old)
         → PairsDone plan.now (A.state array.old) (A.state array.new) result }
     ensures no_pairs { length plan.now.pairs ≡ 0 → A.state array.new ≡ A.state array.old }

@@ -1,6 +1,6 @@
 //! Estates that several tests share: their texts, writers of large ones, and what is read from a text.
 
-ghost use Rattle.dr_inventory.specs.Sound.{IsSound};
+ghost use Rattle.dr_inventory.specs.Sound.{IsSoundEstate};
 
 use dr_base::Name;
 use dr_inventory::{Estate, read_estate};
@@ -54,14 +54,14 @@ pub fn joined(rt: &impl Abort, alloc: Global, front: &str, rows: &str) -> String
 
 /// The estate of a text.
 pub fn read(rt: &impl Abort, alloc: Global, text: &str) -> Estate
-    ensures { IsSound result }
+    ensures { IsSoundEstate result }
 {
     read_estate(alloc, text.as_bytes()).expect(rt, "an estate")
 }
 
 /// The estate of a text in two parts.
 pub fn estate_of(rt: &impl Abort, alloc: Global, front: &str, rows: &str) -> Estate
-    ensures { IsSound result }
+    ensures { IsSoundEstate result }
 {
     let text = joined(rt, alloc, front, rows);
     read(rt, alloc, text.as_str())

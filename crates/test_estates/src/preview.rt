@@ -1,7 +1,7 @@
 //! The report of a plan's start-up.
 
 ghost use Rattle.std.specs.Prelude.{IsTrue};
-ghost use Rattle.dr_inventory.specs.Sound.{IsSound};
+ghost use Rattle.dr_inventory.specs.Sound.{IsSoundEstate};
 ghost use Rattle.dr_report.specs.Reports.{HoldsMachinesOf};
 
 use crate::estates::{NO_MACHINES, read};
@@ -26,7 +26,7 @@ fn has_machines(estate: &Estate, plan: &Plan) -> bool
 
 // The first plan of an estate.
 fn first_plan(rt: &impl Abort, alloc: Global, estate: &Estate) -> Plan
-    requires { IsSound estate.now }
+    requires { IsSoundEstate estate.now }
 {
     assert!(rt; !estate.plans.as_slice().is_empty());
     let members = members(alloc, estate).expect(rt, "members");

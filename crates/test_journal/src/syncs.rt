@@ -1,4 +1,4 @@
-//! Which syncs of a disk over a file reach the system, and what a sync that fails leaves.
+//! Which calls of a disk over a file reach the system, and what a sync that fails leaves.
 
 use crate::watched::{Syncs, WatchedFile, WatchedFiles};
 use dr_base::Failed;
@@ -83,6 +83,26 @@ fn each_sync_reaches_the_system(rt: HostRuntime) {
     assert!(rt; file_syncs.calls() == 1);
     assert!(rt; disk.sync() == Ok(()));
     assert!(rt; file_syncs.calls() == 2);
+    assert!(rt; fs::remove_file(&rt, path).is_ok());
+}
+
+// The bytes of a disk once more are written over a part of its first ones and behind them.
+fn written_over(disk: &mut WatchedDisk<'_>) -> Result<[u8; 8], Failed> {
+    let mut buf = [b'.'; 8];
+    disk.write_at(0, b"abc")?;
+    disk.write_at(1, b"BCDEFGH")?;
+    disk.read_at(0, &mut buf)?;
+    Ok(buf)
+}
+
+#[test]
+fn reads_and_writes_go_on_where_the_system_takes_fewer_bytes(rt: HostRuntime) {
+    let path = "reads_and_writes_go_on_where_the_system_takes_fewer_bytes";
+    let syncs = Syncs::new(0);
+    let files = files_of(&rt, &syncs, &syncs);
+    let mut disk = FileDisk::open(&files, path).expect(&rt, "a file");
+    assert!(rt; written_over(&mut disk) == Ok(*b"aBCDEFGH"));
+    assert!(rt; disk.len() == Ok(8));
     assert!(rt; fs::remove_file(&rt, path).is_ok());
 }
 

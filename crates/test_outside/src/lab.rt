@@ -2,5 +2,9 @@
 
 mod commands;
 mod files;
+mod lookups;
+mod losses;
 mod machines;
 mod pairs;
+mod refusals;
+mod syncs;

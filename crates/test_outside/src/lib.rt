@@ -3,9 +3,13 @@
 #![tactic(auto)]
 
 #[cfg(test)]
+mod agreement;
+#[cfg(test)]
 mod arrays;
 #[cfg(test)]
 mod base;
+#[cfg(test)]
+mod folder;
 #[cfg(test)]
 mod lab;
 #[cfg(test)]

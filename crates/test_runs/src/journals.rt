@@ -1,6 +1,6 @@
 //! Journals that are built by hand, and which records may come in them.
 
-ghost use Rattle.dr_inventory.specs.Sound.{IsSound};
+ghost use Rattle.dr_inventory.specs.Sound.{IsSoundEstate};
 
 use crate::setup::{estate, name, none, numbers, only, small_plan};
 use dr_base::Op;
@@ -138,7 +138,7 @@ pub type Case = (usize, Record, bool);
 impl Journal {
     /// A journal of runs of one plan of the first group.
     pub fn of_plan(rt: &impl Abort, alloc: Global, plan: Plan, records: Vec<Record>) -> Journal
-        ensures { IsSound result.estate }
+        ensures { IsSoundEstate result.estate }
     {
         let mut plans = Vec::new(alloc);
         plans.push(plan).expect(rt, "memory");

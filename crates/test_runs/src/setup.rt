@@ -1,6 +1,6 @@
 //! A small estate, and plans of it that are built by hand.
 
-ghost use Rattle.dr_inventory.specs.Sound.{IsSound};
+ghost use Rattle.dr_inventory.specs.Sound.{IsSoundEstate};
 
 use dr_base::{Callout, Name, Rows};
 use dr_inventory::{Estate, read_estate};
@@ -11,7 +11,7 @@ use test_samples::TWO_GROUPS;
 
 /// The estate of two groups.
 pub fn estate(rt: &impl Abort, alloc: Global) -> Estate
-    ensures { IsSound result }
+    ensures { IsSoundEstate result }
 {
     read_estate(alloc, TWO_GROUPS.as_bytes()).expect(rt, "an estate")
 }

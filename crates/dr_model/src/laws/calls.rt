@@ -3,12 +3,13 @@
 ghost use Rattle.std.specs.Prelude.{◌≡◌, ◌<◌, ℕ, true, false, List, [], ◌∷◌, Option, Some, IfSome};
 ghost use Rattle.dr_groups.specs.Groups.{IsPairOf};
 ghost use Rattle.dr_outside.specs.declared.pair.Half.{Half as HalfValue};
-ghost use Rattle.dr_outside.specs.Arrays.{is_listed, IsWrong};
+ghost use Rattle.dr_base.specs.Lists.{has};
+ghost use Rattle.dr_outside.specs.Arrays.{IsWrong};
 ghost use Rattle.dr_outside.specs.Commands.{HasTokensOnce, RunsOnce};
 ghost use Rattle.dr_outside.specs.Pairs.{Drift, Made, is_fit};
 ghost use Rattle.dr_meaning.specs.Types.{Side as SideValue, Op as OpValue, Pair, Post as PostValue, ArrayCall, Kept as KeptValue, Record as RecordValue};
 ghost use Rattle.dr_meaning.specs.Worlds.{World};
-ghost use Rattle.dr_meaning.specs.Stages.{has, stage_at};
+ghost use Rattle.dr_meaning.specs.Stages.{stage_at};
 ghost use Rattle.dr_meaning.specs.Visits.{Visit, visits, begun, all};
 ghost use Rattle.dr_meaning.specs.Runs.{Setting, Run, number, op, stages_of, is_finished, is_open, run_at, last_of_group, runs_of};
 ghost use Rattle.dr_meaning.specs.Outcomes.{PostOutcome};
@@ -16,7 +17,6 @@ ghost use Rattle.dr_meaning.specs.Reach.{stage_of, works};
 ghost use Rattle.dr_meaning.specs.Lawful.{LawfulAfter};
 ghost use Rattle.dr_meaning.specs.Expected.{wanted, ExpectedPost};
 ghost use Rattle.dr_meaning.specs.Fits.{FitsPair};
-ghost use Rattle.dr_meaning.specs.InOrder.{keeps};
 ghost use Rattle.dr_meaning.specs.Calls.{call_of, Called, CallsPairs, IsLeftOut, IsForCall, IsWorked, KeepsCodes, CallsMachines, OnlyKeepsCodes};
 ghost use Rattle.dr_meaning.specs.Sound.{IsSoundBy, IsSound};
 ghost use Rattle.dr_meaning.specs.Backing.{HasRegularPlans, BacksPair};
@@ -77,7 +77,7 @@ pub fn calls_are_not_wrong()
     ensures { (setting : Setting) (records : List RecordValue) (run : Run) (stage : ℕ) (call : ArrayCall) (list : List ℕ) (world : World) (now : ℕ → Pair) (k : ℕ) (half : HalfValue) →
         LawfulAfter setting [] records → run_at (number run) (runs_of setting records) ≡ Some run → is_open run ≡ true → begun run.log ≡ Some stage →
         call_of run (stage_at (stages_of run) stage).kind ≡ Some call →
-        ((p : ℕ) → is_listed list p ≡ true → IsForCall setting.estate run (stage_at (stages_of run) stage).kind world p) →
+        ((p : ℕ) → has list p ≡ true → IsForCall setting.estate run (stage_at (stages_of run) stage).kind world p) →
         IsSoundBy setting (runs_of setting records) world → ¬ IsWrong call list world.pair now k half }
 {}
 

@@ -4,7 +4,7 @@ ghost use Rattle.std.specs.Prelude.{◌≡◌, ◌↔◌, ℕ, List};
 ghost use Rattle.dr_outside.specs.Pairs.{Drift, frame_of};
 ghost use Rattle.dr_meaning.specs.Types.{Pair, Estate as EstateValue};
 ghost use Rattle.dr_meaning.specs.declared.stage.StageKind.{StageKind as KindValue};
-ghost use Rattle.dr_meaning.specs.Testing.{IsTestedPair, with_snapshot};
+ghost use Rattle.dr_meaning.specs.Testing.{HasTestSnapshot, with_snapshot};
 ghost use Rattle.dr_meaning.specs.Worlds.{World};
 ghost use Rattle.dr_meaning.specs.Runs.{Run};
 ghost use Rattle.dr_meaning.specs.Fits.{FitsPair};
@@ -18,7 +18,7 @@ pub fn drift_composes()
 
 /// A finished test leaves a pair's frame as it was, with a snapshot of its run.
 pub fn tested_frame()
-    ensures { (run : ℕ) (p q : Pair) → IsTestedPair run p q → frame_of q ≡ with_snapshot run (frame_of p) }
+    ensures { (run : ℕ) (p q : Pair) → HasTestSnapshot run p q → frame_of q ≡ with_snapshot run (frame_of p) }
 {}
 
 /// A pair that fits still fits after a drift.

@@ -6,14 +6,14 @@ ghost use Rattle.dr_outside.specs.Pairs.{frame_of};
 ghost use Rattle.dr_meaning.specs.Types.{Op as OpValue, Post as PostValue, PlanMachine as MachineValue, Record as RecordValue};
 ghost use Rattle.dr_meaning.specs.declared.stage.StageKind.{StageKind as KindValue};
 ghost use Rattle.dr_meaning.specs.Worlds.{World};
-ghost use Rattle.dr_meaning.specs.Stages.{has};
+ghost use Rattle.dr_base.specs.Lists.{has};
 ghost use Rattle.dr_meaning.specs.Visits.{Visit, visits};
 ghost use Rattle.dr_meaning.specs.Runs.{Setting, Run, number, op, new, is_finished, is_open, run_at, last_of_group, runs_of, root};
 ghost use Rattle.dr_meaning.specs.Reach.{stage_of};
 ghost use Rattle.dr_meaning.specs.Meaning.{is_left};
 ghost use Rattle.dr_meaning.specs.Lawful.{tokens_from, LawfulAfter};
 ghost use Rattle.dr_meaning.specs.Expected.{ExpectedPost};
-ghost use Rattle.dr_meaning.specs.InOrder.{is_ready, is_aside, is_start_up, InOrder, keeps, is_ready_at_new, IsPairOfMachine, MayRun};
+ghost use Rattle.dr_meaning.specs.InOrder.{is_ready, is_aside, is_start_up, InOrder, has_code, is_ready_at_new, IsPairOfMachine, MayRun};
 ghost use Rattle.dr_meaning.specs.Sound.{IsSoundBy};
 ghost use Rattle.dr_meaning.specs.Backing.{HasRegularPlans, KeepsOrder, IsEntry, IsEarlier};
 
@@ -40,9 +40,9 @@ pub fn wave_machines_may_run()
         ((x : MachineValue) → Contains run.plan.machines x → x.machine < old.machine_count) →
         ((p : ℕ) → IsPairOfMachine run.estate m.machine p → p < old.pair_count) → IsSoundBy setting (runs_of setting records) old →
         ((d : ℕ) → has (stage_of run visit).machines d ≡ false → is_ready_at_new old run d ≡ true → is_ready_at_new now run d ≡ true) →
-        ((t : ℕ) → keeps old.runner t ≡ true → keeps now.runner t ≡ true) →
+        ((t : ℕ) → has_code old.runner t ≡ true → has_code now.runner t ≡ true) →
         ((p : ℕ) → IsPairOfMachine run.estate m.machine p → frame_of (now.pair p) ≡ frame_of (old.pair p)) →
-        AllByRecursion (λ t. keeps (now.kept m.machine) t ≡ true) (tokens_from (root run) 0 (take 2 m.commands)) → MayRun now run m }
+        AllByRecursion (λ t. has_code (now.kept m.machine) t ≡ true) (tokens_from (root run) 0 (take 2 m.commands)) → MayRun now run m }
 {}
 
 /// Machines stay in order in each change in which nothing that they rest on is lost, and each that

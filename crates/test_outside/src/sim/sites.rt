@@ -1,6 +1,6 @@
 //! Simulated arrays of small sites.
 
-ghost use Rattle.dr_inventory.specs.Sound.{IsSound};
+ghost use Rattle.dr_inventory.specs.Sound.{IsSoundEstate};
 ghost use Rattle.dr_inventory.specs.Consistency.{HasLeastEntries};
 
 use dr_inventory::{Estate, read_estate};
@@ -46,7 +46,7 @@ fn array_of(
     faults: &[ArrayFault],
     writer: &[Write],
 ) -> Option<SimArray>
-    requires sound { IsSound estate.now }
+    requires sound { IsSoundEstate estate.now }
     requires least_entries { HasLeastEntries estate.now }
 {
     let writes = vec![in alloc; (100, 95); estate.devices.as_slice().len()].ok()?;

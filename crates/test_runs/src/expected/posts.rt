@@ -1,6 +1,6 @@
 //! Which posts of the machine are expected.
 
-ghost use Rattle.dr_inventory.specs.Sound.{IsSound};
+ghost use Rattle.dr_inventory.specs.Sound.{IsSoundEstate};
 
 use super::runs::{a_failover, a_test, run_after};
 use crate::journals::Journal;
@@ -15,7 +15,7 @@ use std::process::Abort;
 
 // Where the maps place the machine at B, in a bubble or not.
 fn placed_at_b(rt: &impl Abort, estate: &Estate, bubble: bool) -> Placed
-    requires { IsSound estate.now }
+    requires { IsSoundEstate estate.now }
 {
     assert!(rt; estate.machines.as_slice().len() == 1);
     Placed {
@@ -36,7 +36,7 @@ fn expects(
     side: Side,
     post: &Post,
 ) -> bool
-    requires { IsSound journal.now.estate }
+    requires { IsSoundEstate journal.now.estate }
 {
     let run = run_after(rt, alloc, journal, count);
     expects_post(alloc, &journal.estate, 0, 0, side, &[run], post).expect(rt, "memory")
@@ -44,7 +44,7 @@ fn expects(
 
 // Asserts that each of the cases is so.
 fn check(rt: &impl Abort, alloc: Global, journal: &Journal, cases: &[Case])
-    requires { IsSound journal.now.estate }
+    requires { IsSoundEstate journal.now.estate }
 {
     for (i, (count, side, post, expected)) in cases.iter().enumerate() {
         let found = expects(rt, alloc, journal, *count, *side, post);
@@ -90,7 +90,7 @@ fn serving_cases(other: &Placed) -> [Case; 4] {
 
 // The place where the maps put it, but on another network, and in no bubble.
 fn elsewhere(rt: &impl Abort, estate: &Estate) -> Placed
-    requires { IsSound estate.now }
+    requires { IsSoundEstate estate.now }
 {
     let wanted = placed_at_b(rt, estate, true);
     Placed {

@@ -1,7 +1,7 @@
 //! Journals of a run of the first group's machine.
 
 ghost use Rattle.std.specs.Prelude.{◌≡◌};
-ghost use Rattle.dr_inventory.specs.Sound.{IsSound};
+ghost use Rattle.dr_inventory.specs.Sound.{IsSoundEstate};
 
 use crate::journals::{Beginning, Journal, add, start, whole_run, work, work_with};
 use crate::setup::{machine, name, none, numbers, only};
@@ -26,7 +26,7 @@ fn plan(rt: &impl Abort, alloc: Global) -> Plan {
 
 /// A whole test: its third stage starts the machine.
 pub fn a_test(rt: &impl Abort, alloc: Global) -> Journal
-    ensures { IsSound result.estate }
+    ensures { IsSoundEstate result.estate }
 {
     let mut records = Vec::new(alloc);
     whole_run(
@@ -41,7 +41,7 @@ pub fn a_test(rt: &impl Abort, alloc: Global) -> Journal
 
 /// A failover that skips all that it may at the old side, and leaves the machine.
 pub fn a_failover(rt: &impl Abort, alloc: Global) -> Journal
-    ensures { IsSound result.estate }
+    ensures { IsSoundEstate result.estate }
 {
     let mut records = Vec::new(alloc);
     start(

@@ -1,6 +1,6 @@
 use Rattle.std.proofs.Common.{List, ap, sym, ◌∙◌}
 use Rattle.dr_plan.specs.declared.plan.Plan.{Plan}
-use Rattle.dr_desk.specs.Verdicts.{plan_named}
+use Rattle.dr_desk.specs.Decisions.{plan_named}
 use Rattle.dr_desk.proofs.TestableLaws.{named_at, testable}
 use Rattle.dr_desk.proofs.answering.answer_test.Goals as goal
 

@@ -1,6 +1,6 @@
 use Rattle.std.proofs.Common.{◌≡◌, false, take}
 use Rattle.std.specs.List.{list_any}
-use Rattle.dr_desk.specs.Verdicts.{has_command}
+use Rattle.dr_desk.specs.Decisions.{has_command}
 use Rattle.dr_desk.proofs.plans.have_commands.Given as goal
 
 abbrev pub invariant-loop-machine : goal.invariant-loop-machine

@@ -1,5 +1,5 @@
 use Rattle.std.proofs.Common.{ap, sym, ◌∙◌}
-use Rattle.dr_meaning.specs.Stages.{has}
+use Rattle.dr_base.specs.Lists.{has}
 use Rattle.dr_expected.proofs.ShownLaws.{has-reverse}
 use Rattle.dr_expected.proofs.frames.excuses.Goals as goal
 

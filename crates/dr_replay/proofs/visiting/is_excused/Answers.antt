@@ -1,7 +1,7 @@
 use Rattle.std.proofs.Common.{◌==◌, reverse, sym, ◌∙◌, ap}
 use Rattle.std.specs.Prelude.{option_map}
 use Rattle.std.proofs.lemmas.List.{map-id}
-use Rattle.dr_meaning.specs.Stages.{has}
+use Rattle.dr_base.specs.Lists.{has}
 use Rattle.dr_meaning.specs.Visits.{is_excused}
 use Rattle.dr_replay.specs.Values.{visit_of}
 use Rattle.dr_replay.proofs.Told.{any_told}

@@ -1,7 +1,7 @@
 use Rattle.std.proofs.Common.{subst}
 use Rattle.dr_outside.specs.Machines.{machine_at}
 use Rattle.dr_plan.specs.Orders.{AreWaves}
-use Rattle.dr_testing.specs.Tests.{site}
+use Rattle.dr_testing.specs.Tests.{outside}
 use Rattle.dr_testing.proofs.PlanLaws.{waves_startable}
 use Rattle.dr_testing.proofs.TestLaws.{placeholders_before, machines_kept, machines_done, order_after, machine_cause}
 use Rattle.dr_testing.proofs.test_run.run_test.Goals as goal
@@ -14,7 +14,7 @@ returns-in-Ok-clause-cause g c =
     let e = c.start_all.ensures in
     rw c.answer_of.ensures
     (machine_cause g.A.Array.tells g.P.Port.tells c.args.estate.now c.args.plan.now c.requires.testable (subst (AreWaves c.args.plan.now) c.requires.waves c.requires.in_order)
-    (site g.A.Array.state g.P.Port.state c.args.array.now c.args.ports.now) (site g.A.Array.state g.P.Port.state c.snapshot_pairs.new.array c.start_all.new.ports) c.requires.slots.machines c.start_all.result
+    (outside g.A.Array.state g.P.Port.state c.args.array.now c.args.ports.now) (outside g.A.Array.state g.P.Port.state c.snapshot_pairs.new.array c.start_all.new.ports) c.requires.slots.machines c.start_all.result
     (rw c.requires.waves at e.cause) (rw c.requires.waves at e.told) (rw c.requires.waves at e.step) (rw c.as_slice.ensures at c.in-Ok.ensures.told))
 
 pub returns-in-Ok-clause-machines_done : goal.returns-in-Ok-clause-machines_done

@@ -1,6 +1,6 @@
 use Rattle.std.proofs.Common.{◌≡◌, ◌≤◌, List, ℕ, length, replicate, subst, sym, ap, ◌∙◌, arith}
 use Rattle.std.proofs.lemmas.List.{length-replicate}
-use Rattle.dr_disk.specs.Changes.{SameOutside}
+use Rattle.dr_disk.specs.Spans.{SameOutside}
 use Rattle.dr_disk.specs.Disk.{written}
 use Rattle.dr_disk.specs.Memory.{MemoryDisk}
 use Rattle.dr_disk.proofs.Written.{length-written, same_outside_write, same_outside_writes, images_of_write}

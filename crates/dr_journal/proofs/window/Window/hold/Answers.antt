@@ -26,3 +26,9 @@ returns-clause-bytes g c = λ f reads.
 
 pub returns-clause-keeps : goal.returns-clause-keeps
 returns-clause-keeps g c = kept c.args.at c.args.self.now.start c.args.self.now.bytes.items c.remove_front.new.bytes.items c.read_more.new.buffer.items c.remove_front.ensures.items c.read_more.ensures.front
+
+pub returns-in_err-read_more-clause-room : goal.returns-in_err-read_more-clause-room
+returns-in_err-read_more-clause-room g c = omega (arith, ap length c.in_err-read_more.ensures.err)
+
+pub returns-clause-room : goal.returns-clause-room
+returns-clause-room g c = omega (arith, c.in_ok-read_more.ensures.count)

@@ -1,7 +1,7 @@
 use Rattle.std.proofs.Common.{not, ◌||◌, rules, tests}
 use Rattle.std.proofs.lemmas.Iterator.{YieldsList-from_slice}
 use Rattle.std.proofs.lemmas.Iterator.Search.{all_from_yields_List}
-use Rattle.dr_meaning.specs.Stages.{has}
+use Rattle.dr_base.specs.Lists.{has}
 use Rattle.dr_meaning.specs.Meaning.{is_left}
 use Rattle.dr_replay.specs.Values.{run_of}
 use Rattle.dr_replay.specs.Following.{NamesIfLeft}
