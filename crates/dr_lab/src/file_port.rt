@@ -167,6 +167,8 @@ impl<F: Files> Port for FilePort<F> {
 
     ghost state = { λ port. untold_port port.faults };
 
+    ghost once = { λ port told. absurd told };
+
     /// One look whether the side is down, and one at the machine's file.
     fn post(&mut self, side: Side) -> Result<Post, PortFail>
         ensures only { IfErr result (λ e. e ≡ PortFail.Failed) }

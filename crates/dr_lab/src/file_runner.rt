@@ -50,6 +50,8 @@ impl<F: Files> Runner for FileRunner<F> {
 
     ghost state = { λ runner. untold_runner runner.faults };
 
+    ghost once = { λ runner told. absurd told };
+
     /// One reading of the file of kept commands.
     fn ran(&mut self, token: u64) -> Result<Option<u8>, RunnerFail>
         ensures only { IfErr result (λ e. e ≡ RunnerFail.Failed) }

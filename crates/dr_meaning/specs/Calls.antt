@@ -64,10 +64,11 @@ MadeBy (Some call) p q = Made call p q
 abbrev pub IsWorked : Run → StageKind → Pair → Pair → Type 0
 IsWorked run kind p q = (IsLeftOut run kind p × Drift p q) ⊎ MadeBy (call_of run kind) p q
 
--- a call of a run to the array, Ok or Failed, over all pairs: which of them it made. None of a group that the run doesn't hold, and of a group's pairs that are of one consistency group and had one frame all or none
+-- a call of a run to the array, Ok or Failed, over all pairs: which of them it made. Each is of a group, none of a group that the run doesn't hold, and of a group's pairs that are of one consistency group and had one frame all or none
 pub record CallsPairs (estate : Estate) (run : Run) (call : ArrayCall) (old now : World) : Type 0 where
   pub which : ℕ → Bool
   pub each : (p : ℕ) → PairStep call (which p) (old.pair p) (now.pair p)
+  pub grouped : (p : ℕ) → which p ≡ true → (g : ℕ) × IsPairOf estate g p
   pub own : (g p : ℕ) → IsPairOf estate g p → which p ≡ true → holds g run ≡ true
   pub alike : (g p q : ℕ) → IsPairOf estate g p → IsPairOf estate g q → SameConsistency estate p q → frame_of (old.pair p) ≡ frame_of (old.pair q) → which p ≡ which q
   pub rest : record now { pair = old.pair } ≡ old

@@ -1,6 +1,7 @@
--- What one call of the desk may change, from its beginning to its end.
-use Rattle.std.specs.Prelude.{◌≡◌, ℕ, ◌+◌, ◌≤◌, ◌==◌, ◌⊎◌, Bool, true, false, ◌&&◌, ◌||◌, not, IsTrue, List, [], ◌∷◌, ◌++◌, Contains, Option, Some, None, IfSome, find, slice_get}
+-- What changes of the outside while records come to a journal.
+use Rattle.std.specs.Prelude.{◌≡◌, ℕ, ◌+◌, ◌<◌, ◌≤◌, ◌==◌, ◌⊎◌, Bool, true, false, ◌&&◌, ◌||◌, not, IsTrue, List, [], ◌∷◌, ◌++◌, Contains, Option, Some, None, option_map, find, slice_get}
 use Rattle.std.specs.List.{list_any, list_all, AllByRecursion}
+use Rattle.std.specs.Option.{option_or}
 use Rattle.dr_groups.specs.Groups.{IsPairOf, IsMachineOf}
 use Rattle.dr_base.specs.Sides.{other}
 use Rattle.dr_outside.specs.BySide.{at}
@@ -11,11 +12,10 @@ use Rattle.dr_meaning.specs.Testing.{DriftsButSnapshot}
 use Rattle.dr_meaning.specs.Worlds.{World}
 use Rattle.dr_base.specs.Lists.{has}
 use Rattle.dr_meaning.specs.Stages.{stage_at, stages}
-use Rattle.dr_meaning.specs.Runs.{Setting, Run, TakenOver, number, op, new, root, migration, holds, run_named, stages_of, group_state, protected_side, runs_of}
+use Rattle.dr_meaning.specs.Runs.{Setting, Run, TakenOver, number, op, new, root, migration, holds, run_named, stages_of, is_finished, group_state}
 use Rattle.dr_meaning.specs.Lawful.{machine_in_plan, token_of}
 use Rattle.dr_meaning.specs.Fits.{pair_row}
-use Rattle.dr_meaning.specs.Journals.{HasRecords, IsLawful}
-use Rattle.dr_meaning.specs.Images.{AreKept, Keeps}
+use Rattle.dr_meaning.specs.Journals.{Stands}
 
 -- Runs with new records ------------------------------------------------------------------------------------
 
@@ -120,83 +120,96 @@ pub record GrowsBy (Is : Kept → Type 0) (old new : List Kept) : Type 0 where
   pub each : AllByRecursion Is added
   pub once : HasTokensOnce old → HasTokensOnce new
 
--- What a Start read ------------------------------------------------------------------------------------------
-
--- whether a record is a Finish of the run of this number
-abbrev pub is_finish_of : ℕ → Record → Bool
-is_finish_of n (Record.Finish run moment machines) = run == n
-is_finish_of n _ = false
+-- Writes -------------------------------------------------------------------------------------------------------
 
 -- whether an operation is a reprotect
 abbrev pub is_reprotect : Op → Bool
+is_reprotect Op.Testing = false
+is_reprotect Op.Cleanup = false
+is_reprotect Op.Migrate = false
+is_reprotect Op.Failover = false
 is_reprotect Op.Reprotect = true
-is_reprotect _ = false
 
--- whether a run is a reprotect that holds the group, and one of these records finishes it
-abbrev pub has_reversed : ℕ → List Record → Run → Bool
-has_reversed group records run = holds group run && is_reprotect (op run) && list_any (is_finish_of (number run)) records
+-- whether a run is the reprotect of this number, and holds the group
+abbrev pub is_reverse : (group run : ℕ) → Run → Bool
+is_reverse group n run = (number run == n) && (holds group run && is_reprotect (op run))
 
--- the last reprotect of the group that these records finish
-abbrev pub last_reverse : ℕ → List Record → List Run → Option Run
-last_reverse group records runs = find (has_reversed group records) runs
+-- the Start of the reprotect of the group that a record finishes
+abbrev pub reversed_by : ℕ → List Run → Record → Option StartRow
+reversed_by group runs (Record.Finish run moment machines) = option_map (λ reprotect. reprotect.start) (find (is_reverse group run) runs)
+reversed_by group runs (Record.Estate bytes) = None
+reversed_by group runs (Record.Start row) = None
+reversed_by group runs (Record.Attempt run moment) = None
+reversed_by group runs (Record.Begin run k) = None
+reversed_by group runs (Record.Done run k) = None
+reversed_by group runs (Record.Skip run k machine) = None
+reversed_by group runs (Record.Aside run machine by) = None
+reversed_by group runs (Record.Answer run step text) = None
+reversed_by group runs (Record.Code run token machine code) = None
+
+-- the Start of the last reprotect of the group that these records finish
+abbrev pub last_reverse : ℕ → List Run → List Record → Option StartRow
+last_reverse group runs [] = None
+last_reverse group runs (item ∷ rest) = option_or (last_reverse group runs rest) (reversed_by group runs item)
+
+-- whether a reprotect of the group isn't finished: it may discard writes
+abbrev pub is_reversing : ℕ → List Run → Bool
+is_reversing group runs = list_any (λ run. holds group run && (is_reprotect (op run) && not (is_finished run))) runs
 
 -- the writes of the new side that a row gives, or 0 where there is none
 abbrev pub new_writes_of : Option StartPair → ℕ
 new_writes_of None = 0
 new_writes_of (Some row) = row.new_writes
 
--- the least writes that a later Start may give of a pair: those that were there, or, since a reverse discards writes, those that the reprotect's Start read at its new side
-abbrev pub least_of : ℕ → (was : ℕ) → Option Run → ℕ
+-- the least writes that a pair may have: those that were there, or, since a reprotect discards writes, those that its Start read at its new side
+abbrev pub least_of : ℕ → (was : ℕ) → Option StartRow → ℕ
 least_of pair was None = was
-least_of pair was (Some reprotect) = new_writes_of (pair_row pair reprotect.start)
+least_of pair was (Some reprotect) = new_writes_of (pair_row pair reprotect)
 
--- the same of a side, by what was there at the call's beginning and the last reprotect since
-abbrev pub least_at : (group pair : ℕ) → List Record → List Run → World → Side → ℕ
-least_at group pair earlier runs old side = least_of pair (at side (old.pair pair).content).writes (last_reverse group earlier runs)
+-- the same of a side, by what was there before these records and the last reprotect that they finish
+abbrev pub least_at : (group pair : ℕ) → List Run → List Record → World → Side → ℕ
+least_at group pair runs more old side = least_of pair (at side (old.pair pair).content).writes (last_reverse group runs more)
 
 -- a pair's row in a Start gives at least these writes: at the new side always, at the old side where it was read
 pub record ReadsAtLeast (least : Side → ℕ) (old_side : Side) (row : StartPair) : Type 0 where
   pub new_side : least (other old_side) ≤ row.new_writes
   pub old_side_too : row.seen ≡ true → least old_side ≤ row.old_writes
 
--- no image has this record
-abbrev pub NoneHas : (List ℕ → Type 0) → Record → Type 0
-NoneHas images item = (file : List ℕ) (records : List Record) → images file → HasRecords records file → ¬ Contains records item
+-- What changes -----------------------------------------------------------------------------------------------------
 
--- a Start behind these records, which no image at the call's beginning has, gives no fewer writes of a pair than that
-abbrev pub ReadTruly : Setting → (List ℕ → Type 0) → (was earlier : List Record) → StartRow → World → Type 0
-ReadTruly setting images was earlier row old =
-    NoneHas images (Record.Start row) →
-    (g p : ℕ) → IsPairOf setting.estate g p → IsTrue (has row.groups g) →
-    IfSome (pair_row p row) (ReadsAtLeast (least_at g p earlier (runs_of setting (was ++ earlier)) old) (protected_side setting row.groups (runs_of setting (was ++ earlier))))
-
--- One call -----------------------------------------------------------------------------------------------------
-
--- what a call of the desk changes of the outside, where the records `was` are kept at its beginning, and `more` behind them at its end
-pub record ChangesWorld (setting : Setting) (images : List ℕ → Type 0) (was more : List Record) (old new : World) : Type 0 where
+-- what changes while the last records of a journal come, in which these runs stand with them
+pub record ChangesWorld (setting : Setting) (runs : List Run) (more : List Record) (old new : World) : Type 0 where
   -- an object of no group that is held by a run with a new record is as it was, a pair but for drift
-  pub idle_pairs : (p : ℕ) → ((g : ℕ) → IsPairOf setting.estate g p → is_touched g more (runs_of setting (was ++ more)) ≡ false) → Drift (old.pair p) (new.pair p)
-  pub idle_posts : (m : ℕ) → ((g : ℕ) → IsMachineOf setting.estate g m → is_touched g more (runs_of setting (was ++ more)) ≡ false) → new.post m ≡ old.post m
+  pub idle_pairs : (p : ℕ) → ((g : ℕ) → IsPairOf setting.estate g p → is_touched g more runs ≡ false) → Drift (old.pair p) (new.pair p)
+  pub idle_posts : (m : ℕ) → ((g : ℕ) → IsMachineOf setting.estate g m → is_touched g more runs ≡ false) → new.post m ≡ old.post m
   -- where all such runs are tests and cleanups, the protected side is as it was, and a pair but for drift and its snapshot
-  pub tested_pairs : (g p : ℕ) → IsPairOf setting.estate g p → is_only_tested g more (runs_of setting (was ++ more)) ≡ true → DriftsButSnapshot (old.pair p) (new.pair p)
-  pub tested_posts : (g m : ℕ) → IsMachineOf setting.estate g m → is_only_tested g more (runs_of setting (was ++ more)) ≡ true →
-      at (group_state setting.estate g (runs_of setting was)).protected (new.post m) ≡ at (group_state setting.estate g (runs_of setting was)).protected (old.post m)
+  pub tested_pairs : (g p : ℕ) → IsPairOf setting.estate g p → p < old.pair_count → is_only_tested g more runs ≡ true → DriftsButSnapshot (old.pair p) (new.pair p)
+  pub tested_posts : (g m : ℕ) → IsMachineOf setting.estate g m → is_only_tested g more runs ≡ true →
+      at (group_state setting.estate g runs).protected (new.post m) ≡ at (group_state setting.estate g runs).protected (old.post m)
+  -- it has as many pairs and machines as before
+  pub pair_count : new.pair_count ≡ old.pair_count
+  pub machine_count : new.machine_count ≡ old.machine_count
   -- kept lists only grow, by commands of runs that have begun them
-  pub kept : (m : ℕ) → GrowsBy (IsMachineCommand (runs_of setting (was ++ more)) m) (old.kept m) (new.kept m)
-  pub runner : GrowsBy (IsStepCommand (runs_of setting (was ++ more))) old.runner new.runner
-  -- a new Start gives no fewer writes than there were
-  pub starts : (earlier later : List Record) (row : StartRow) → more ≡ earlier ++ Record.Start row ∷ later → ReadTruly setting images was earlier row old
+  pub kept : (m : ℕ) → GrowsBy (IsMachineCommand runs m) (old.kept m) (new.kept m)
+  pub runner : GrowsBy (IsStepCommand runs) old.runner new.runner
+
+-- no side of a pair has fewer writes than it had, or than the Start of a reprotect read that was finished since; while one is open, nothing is said
+abbrev pub KeepsWrites : Setting → List Run → List Record → World → World → Type 0
+KeepsWrites setting runs more old new =
+    (g p : ℕ) (side : Side) → IsPairOf setting.estate g p → p < old.pair_count → is_reversing g runs ≡ false →
+    least_at g p runs more old side ≤ (at side (new.pair p).content).writes
 
 -- nothing changes but pairs, by drift
 pub record OnlyDrifts (old new : World) : Type 0 where
+  pub pair_count : new.pair_count ≡ old.pair_count
+  pub machine_count : new.machine_count ≡ old.machine_count
   pub pairs : (p : ℕ) → Drift (old.pair p) (new.pair p)
   pub posts : (m : ℕ) → new.post m ≡ old.post m
   pub kept : (m : ℕ) → new.kept m ≡ old.kept m
   pub runner : new.runner ≡ old.runner
 
--- what one call of the desk changes: what was kept is kept, and the outside changes as the records that are new say
-pub record Changes (old_images new_images : List ℕ → Type 0) (old new : World) : Type 0 where
-  pub keeps : Keeps old_images new_images
-  pub world : (was more : List Record) (setting : Setting) → AreKept old_images was → AreKept new_images (was ++ more) → IsLawful setting (was ++ more) → ChangesWorld setting old_images was more old new
-  -- where no record is kept at its end, nothing changes but pairs, by drift
-  pub empty : AreKept new_images [] → OnlyDrifts old new
+-- the outside changed while the last of these records came: as they say, and without any record by drift alone
+pub record ChangedBy (records more : List Record) (old new : World) : Type 0 where
+  pub by_runs : (setting : Setting) (runs : List Run) → Stands setting records runs → ChangesWorld setting runs more old new
+  pub writes : (setting : Setting) (runs : List Run) → Stands setting records runs → KeepsWrites setting runs more old new
+  pub empty : records ≡ [] → OnlyDrifts old new

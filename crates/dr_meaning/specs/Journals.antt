@@ -17,13 +17,16 @@ pub record DeclaresSetting (bytes : List ℕ) (setting : Setting) : Type 0 where
   pub members : Members
   pub declares : Declares bytes (record { estate = setting.estate; members = members; plans = setting.plans })
 
--- The records of a file --------------------------------------------------------------------------------------
+-- The records of a journal -----------------------------------------------------------------------------------
 
--- the journal's first record, if it has one, is an Estate that declares this setting, and each other record may come after those before it
-abbrev pub IsLawful : Setting → List Record → Type 0
-IsLawful setting [] = Unit {0}
-IsLawful setting (Record.Estate bytes ∷ rest) = DeclaresSetting bytes setting × LawfulAfter setting [] rest
-IsLawful setting (_ ∷ rest) = ⊥
+-- these runs, newest first, stand in a journal of these records: its first record declares what is in force, and each other one may come after those before it
+pub record Stands (setting : Setting) (records : List Record) (runs : List Run) : Type 0 where
+  pub bytes : List ℕ
+  pub rest : List Record
+  pub are : records ≡ Record.Estate bytes ∷ rest
+  pub declares : DeclaresSetting bytes setting
+  pub lawful : LawfulAfter setting [] rest
+  pub runs_are : runs ≡ runs_of setting rest
 
 -- the body is the spelling of this record
 pub record IsSpelled (body : List ℕ) (item : Record) : Type 0 where
@@ -43,14 +46,11 @@ pub record HasRecords (records : List Record) (file : List ℕ) : Type 0 where
   pub whole : journal_of file ≡ Whole bodies
   pub spelled : AreSpelled bodies records
 
--- the file is a lawful journal, not empty, which declares this setting and tells these runs, newest first
+-- the file is a lawful journal, not empty, which declares this setting and tells these runs
 pub record Tells (setting : Setting) (runs : List Run) (file : List ℕ) : Type 0 where
-  pub bytes : List ℕ
-  pub rest : List Record
-  pub has : HasRecords (Record.Estate bytes ∷ rest) file
-  pub declares : DeclaresSetting bytes setting
-  pub lawful : LawfulAfter setting [] rest
-  pub runs_are : runs ≡ runs_of setting rest
+  pub records : List Record
+  pub has : HasRecords records file
+  pub stand : Stands setting records runs
 
 -- each image of a disk tells these runs in this setting
 abbrev pub AllTell : Setting → List Run → (List ℕ → Type 0) → Type 0
@@ -58,9 +58,9 @@ AllTell setting runs images = (file : List ℕ) → images file → Tells settin
 
 -- Files that are no journal --------------------------------------------------------------------------------------
 
--- these are the records of a lawful journal: it declares a setting, and each record may come after those before it
+-- these are the records of a lawful journal: it is empty, or runs stand in it
 abbrev pub AreLawful : List Record → Type 0
-AreLawful records = (setting : Setting) × IsLawful setting records
+AreLawful records = (records ≡ []) ⊎ ((setting : Setting) × (runs : List Run) × Stands setting records runs)
 
 -- a body may follow these records: it spells a record, with which they are lawful
 pub record MayFollow (records : List Record) (body : List ℕ) : Type 0 where

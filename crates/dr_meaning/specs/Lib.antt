@@ -9,6 +9,7 @@ pub mod Need
 pub mod Worlds
 pub mod Visits
 pub mod Runs
+pub mod Since
 pub mod Outcomes
 pub mod Reach
 pub mod Meaning

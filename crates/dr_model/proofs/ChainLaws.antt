@@ -1,7 +1,7 @@
 -- Lawful records make a chain of the runs that hold a group.
 use Rattle.std.specs.Prelude.{◌≡◌, ◌≢◌, ℕ, ◌<◌, ◌==◌, ◌⊎◌, Bool, true, false, ◌&&◌, List, [], ◌∷◌, Option, Some, None, IsTrue, IsSomeAnd, cond, map, filter, find, fold, slice_get, option_map}
 use Rattle.std.proofs.Common.{refl, sym, ap, ◌∙◌, subst, inl, inr, arith}
-use Rattle.std.proofs.lemmas.Bool.{eq-eqb, eqb-true, ne_eqb, cases_eq}
+use Rattle.std.proofs.lemmas.Bool.{eq-eqb, eqb-true, ne_eqb}
 use Rattle.dr_meaning.proofs.Elements.{pick}
 use Rattle.dr_meaning.specs.Types.{Op, Estate, Plan, StartRow, Record}
 use Rattle.dr_base.specs.Lists.{has}

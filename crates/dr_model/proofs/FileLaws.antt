@@ -13,7 +13,7 @@ use Rattle.dr_meaning.specs.Types.{Record}
 use Rattle.dr_meaning.specs.Worlds.{World}
 use Rattle.dr_meaning.specs.Runs.{Setting, Run, runs_of, add_record}
 use Rattle.dr_meaning.specs.Lawful.{MayCome}
-use Rattle.dr_meaning.specs.Journals.{DeclaresSetting, IsSpelled, AreSpelled, HasRecords, Tells, AllTell}
+use Rattle.dr_meaning.specs.Journals.{DeclaresSetting, IsSpelled, AreSpelled, HasRecords, Stands, Tells, AllTell}
 use Rattle.dr_meaning.specs.Sound.{IsSoundBy, IsSound, AreSound}
 use Rattle.dr_meaning.proofs.AppendLaws.{runs_of-append, LawfulAfter-append}
 
@@ -22,7 +22,7 @@ use Rattle.dr_meaning.proofs.AppendLaws.{runs_of-append, LawfulAfter-append}
 one_item : (body : List ℕ) (a b : Record) → IsSpelled body a → IsSpelled body b → a ≡ b
 one_item body a b p q = one_record a b p.is_record q.is_record (p.spelled ∙ sym q.spelled)
 
-one_list : (bodies : List (List ℕ)) (xs ys : List Record) → AreSpelled bodies xs → AreSpelled bodies ys → xs ≡ ys
+pub one_list : (bodies : List (List ℕ)) (xs ys : List Record) → AreSpelled bodies xs → AreSpelled bodies ys → xs ≡ ys
 one_list [] [] [] p q = refl
 one_list [] [] (y ∷ ys) p q = elim q [ ]
 one_list [] (x ∷ xs) ys p q = elim p [ ]
@@ -55,18 +55,24 @@ abbrev behind : List Record → List Record
 behind [] = []
 behind (item ∷ rest) = rest
 
--- a file tells one setting and its runs
-pub one_told : (s t : Setting) (a b : List Run) (file : List ℕ) → Tells s a file → Tells t b file → (s ≡ t) × (a ≡ b)
-one_told s t a b file p q =
-    let records : Record.Estate p.bytes ∷ p.rest ≡ Record.Estate q.bytes ∷ q.rest = one_records file _ _ p.has q.has in
-    let bytes : p.bytes ≡ q.bytes = ap bytes_of records in
-    let rest : p.rest ≡ q.rest = ap behind records in
+-- in a journal of these records one setting is in force, and its runs stand
+pub one_stand : (s t : Setting) (records : List Record) (a b : List Run) → Stands s records a → Stands t records b → (s ≡ t) × (a ≡ b)
+one_stand s t records a b p q =
+    let same : Record.Estate p.bytes ∷ p.rest ≡ Record.Estate q.bytes ∷ q.rest = sym p.are ∙ q.are in
+    let bytes : p.bytes ≡ q.bytes = ap bytes_of same in
+    let rest : p.rest ≡ q.rest = ap behind same in
     let setting : s ≡ t = one_setting q.bytes s t (subst (λ l. DeclaresSetting l s) bytes p.declares) q.declares in
     (setting, p.runs_are ∙ (λ i. runs_of (setting i) (rest i)) ∙ sym q.runs_are)
 
+-- a file tells one setting and its runs
+pub one_told : (s t : Setting) (a b : List Run) (file : List ℕ) → Tells s a file → Tells t b file → (s ≡ t) × (a ≡ b)
+one_told s t a b file p q =
+    let same : p.records ≡ q.records = one_records file p.records q.records p.has q.has in
+    one_stand s t q.records a b (subst (λ l. Stands s l a) same p.stand) q.stand
+
 -- it isn't empty
 not_empty : (setting : Setting) (runs : List Run) (file : List ℕ) → Tells setting runs file → HasRecords [] file → ⊥
-not_empty setting runs file t empty = let wrong : Record.Estate t.bytes ∷ t.rest ≡ [] = one_records file _ _ t.has empty in cc
+not_empty setting runs file t empty = let wrong : Record.Estate t.stand.bytes ∷ t.stand.rest ≡ [] = sym t.stand.are ∙ one_records file t.records [] t.has empty in cc
 
 -- it is sound by the runs that it tells
 pub sound_by_told : (setting : Setting) (runs : List Run) (world : World) (file : List ℕ) → Tells setting runs file → IsSound world file → IsSoundBy setting runs world
@@ -80,11 +86,11 @@ told_sound setting runs world file t sound = inr (record { setting = setting; ru
 
 -- The same records
 
-same_has : (records : List Record) (old new : List ℕ) → SameRecords old new → HasRecords records old → HasRecords records new
+pub same_has : (records : List Record) (old new : List ℕ) → SameRecords old new → HasRecords records old → HasRecords records new
 same_has records old new same h = record { bodies = h.bodies; whole = same ∙ h.whole; spelled = h.spelled }
 
 pub same_tells : (setting : Setting) (runs : List Run) (old new : List ℕ) → SameRecords old new → Tells setting runs old → Tells setting runs new
-same_tells setting runs old new same t = record { bytes = t.bytes; rest = t.rest; has = same_has _ old new same t.has; declares = t.declares; lawful = t.lawful; runs_are = t.runs_are }
+same_tells setting runs old new same t = record { records = t.records; has = same_has t.records old new same t.has; stand = t.stand }
 
 pub same_all : (setting : Setting) (runs : List Run) (A B : List ℕ → Type 0) → Follows SameRecords A B → AllTell setting runs A → AllTell setting runs B
 same_all setting runs A B follows told c here = let (old, was, same) = follows c here in same_tells setting runs old c same (told old was)
@@ -98,7 +104,7 @@ opened_sound world A B follows sound c here = let (old, was, same) = follows c h
 
 -- One record more
 
-spelled_append : (bodies : List (List ℕ)) (records : List Record) (body : List ℕ) (item : Record) → AreSpelled bodies records → IsSpelled body item → AreSpelled (bodies ++ body ∷ []) (records ++ item ∷ [])
+pub spelled_append : (bodies : List (List ℕ)) (records : List Record) (body : List ℕ) (item : Record) → AreSpelled bodies records → IsSpelled body item → AreSpelled (bodies ++ body ∷ []) (records ++ item ∷ [])
 spelled_append [] [] body item h is = (is, tt)
 spelled_append [] (r ∷ records) body item h is = elim h [ ]
 spelled_append (b ∷ bodies) [] body item h is = elim h [ ]
@@ -111,15 +117,27 @@ append_has records body item old new appends is h = record {
   spelled = spelled_append h.bodies records body item h.spelled is;
 }
 
+-- the runs with the record stand in the journal with it
+pub append_stands : (setting : Setting) (records : List Record) (runs : List Run) (item : Record) → Stands setting records runs → MayCome setting runs item → Stands setting (records ++ item ∷ []) (add_record setting runs item)
+append_stands setting records runs item s may = record {
+  bytes = s.bytes;
+  rest = s.rest ++ item ∷ [];
+  are = ap (λ l. l ++ item ∷ []) s.are;
+  declares = s.declares;
+  lawful = LawfulAfter-append setting [] s.rest item s.lawful (subst (λ l. MayCome setting l item) s.runs_are may);
+  runs_are = ap (λ l. add_record setting l item) s.runs_are ∙ sym (runs_of-append setting s.rest item);
+}
+
+-- no run stands in the journal of an Estate alone
+pub declare_stands : (setting : Setting) (bytes : List ℕ) → DeclaresSetting bytes setting → Stands setting (Record.Estate bytes ∷ []) []
+declare_stands setting bytes declares = record { bytes = bytes; rest = []; are = refl; declares = declares; lawful = tt; runs_are = refl }
+
 -- the file tells the runs with the record
 pub append_tells : (setting : Setting) (runs : List Run) (item : Record) (body old new : List ℕ) → Tells setting runs old → MayCome setting runs item → IsSpelled body item → Appends (body ∷ []) old new → Tells setting (add_record setting runs item) new
 append_tells setting runs item body old new t may is appends = record {
-  bytes = t.bytes;
-  rest = t.rest ++ item ∷ [];
-  has = append_has (Record.Estate t.bytes ∷ t.rest) body item old new appends is t.has;
-  declares = t.declares;
-  lawful = LawfulAfter-append setting [] t.rest item t.lawful (subst (λ l. MayCome setting l item) t.runs_are may);
-  runs_are = ap (λ l. add_record setting l item) t.runs_are ∙ sym (runs_of-append setting t.rest item);
+  records = t.records ++ item ∷ [];
+  has = append_has t.records body item old new appends is t.has;
+  stand = append_stands setting t.records runs item t.stand may;
 }
 
 pub append_all : (setting : Setting) (runs : List Run) (item : Record) (body : List ℕ) (A B : List ℕ → Type 0) → AllTell setting runs A → MayCome setting runs item → IsSpelled body item → Follows (Appends (body ∷ [])) A B → AllTell setting (add_record setting runs item) B
@@ -128,12 +146,9 @@ append_all setting runs item body A B told may is follows c here = let (old, was
 -- and a declaring file, no run
 pub declare_tells : (setting : Setting) (bytes body old new : List ℕ) → HasRecords [] old → DeclaresSetting bytes setting → IsSpelled body (Record.Estate bytes) → Appends (body ∷ []) old new → Tells setting [] new
 declare_tells setting bytes body old new empty declares is appends = record {
-  bytes = bytes;
-  rest = [];
+  records = Record.Estate bytes ∷ [];
   has = append_has [] body (Record.Estate bytes) old new appends is empty;
-  declares = declares;
-  lawful = tt;
-  runs_are = refl;
+  stand = declare_stands setting bytes declares;
 }
 
 pub declare_all : (setting : Setting) (bytes body : List ℕ) (A B : List ℕ → Type 0) → ((file : List ℕ) → A file → HasRecords [] file) → DeclaresSetting bytes setting → IsSpelled body (Record.Estate bytes) → Follows (Appends (body ∷ [])) A B → AllTell setting [] B
@@ -145,7 +160,7 @@ none_or_one body zero le = inl refl
 none_or_one body (suc zero) le = inr refl
 none_or_one body (suc (suc n)) le = absurd (omega (arith, le))
 
-some_or_same : (body old new : List ℕ) → AppendsSome (body ∷ []) old new → SameRecords old new ⊎ Appends (body ∷ []) old new
+pub some_or_same : (body old new : List ℕ) → AppendsSome (body ∷ []) old new → SameRecords old new ⊎ Appends (body ∷ []) old new
 some_or_same body old new some = go (none_or_one body some.count some.within)
   where
     go : (take some.count (body ∷ []) ≡ []) ⊎ (take some.count (body ∷ []) ≡ body ∷ []) → SameRecords old new ⊎ Appends (body ∷ []) old new

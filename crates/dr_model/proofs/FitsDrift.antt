@@ -51,7 +51,7 @@ if_some P Q f None h = h
 if_some P Q f (Some x) h = f x h
 
 -- at a Live pair the other side than the source is the target
-target_of : (p : Pair) → p.link ≡ Link.Live → is_target (other p.source) (frame_of p) ≡ true
+pub target_of : (p : Pair) → p.link ≡ Link.Live → is_target (other p.source) (frame_of p) ≡ true
 target_of p e = rw e (go p.source)
   where
     go : (s : Side) → not (same_side (other s) s) ≡ true

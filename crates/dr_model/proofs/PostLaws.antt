@@ -14,7 +14,7 @@ use Rattle.dr_meaning.specs.Reach.{works}
 use Rattle.dr_meaning.specs.Expected.{wanted, ExpectedPost}
 use Rattle.dr_meaning.specs.Lawful.{MayCome, LawfulAfter}
 use Rattle.dr_meaning.specs.InOrder.{is_start_up}
-use Rattle.dr_meaning.specs.Phases.{IsAtRest, WasLeft, PostAtRest, PostUnderWay}
+use Rattle.dr_meaning.specs.Phases.{IsAtRest, PostAtRest, PostUnderWay}
 use Rattle.dr_meaning.proofs.Lists.{Each, each-map, find-passes}
 use Rattle.dr_model.proofs.StageLaws.{stage_from-each, each-clear_op}
 use Rattle.dr_model.proofs.ReachLaws.{kind_at}
@@ -23,7 +23,7 @@ use Rattle.dr_model.proofs.TableLaws.{table_falls, open_is_last_of}
 use Rattle.dr_model.proofs.LogLaws.{only_run, unfinished}
 use Rattle.dr_model.proofs.WholeMigrate.{side_of_other}
 use Rattle.dr_model.proofs.PostWalk.{post-begin}
-use Rattle.dr_model.proofs.PostPhase.{same_side-other, OpensPost, LeavesIts, UnderPost, StandsPost, chain_posts}
+use Rattle.dr_model.proofs.PostPhase.{same_side-other, LastLeft, LastAtRest, any_at_rest, OpensPost, LeavesIts, UnderPost, StandsPost, chain_posts}
 use Rattle.dr_model.proofs.ChainLaws.{HasPlan, IsWellKept, kept-lawful, open_run, group_state-filter}
 
 pub empty_kept : (setting : Setting) → IsWellKept setting []
@@ -34,10 +34,13 @@ module _ (setting : Setting) (runs : List Run) (well : IsWellKept setting runs) 
   own_estate = each-filter (λ r. r.estate ≡ setting.estate) (holds g) runs (each-map (HasPlan setting) (λ r. r.estate ≡ setting.estate) (λ r h. h.estate) runs well.plans)
 
   -- a group that no open run holds
-  pub post-rest : (m : ℕ) (side : Side) (y : Post) → IsAtRest (filter (holds g) runs) → ExpectedPost setting.estate g m side runs y → PostAtRest m (filter (holds g) runs) side (group_state setting.estate g runs) y
-  post-rest m side y rest expected =
-      subst (λ state. PostAtRest m (filter (holds g) runs) side state y) (group_state-filter setting.estate g runs)
+  pub post-rest_last : (m : ℕ) (side : Side) (y : Post) → IsAtRest (filter (holds g) runs) → ExpectedPost setting.estate g m side runs y → LastAtRest m (filter (holds g) runs) side (group_state setting.estate g runs) y
+  post-rest_last m side y rest expected =
+      subst (λ state. LastAtRest m (filter (holds g) runs) side state y) (group_state-filter setting.estate g runs)
       ((chain_posts setting.estate g m side (filter (holds g) runs) (well.groups g).chain own_estate y expected).0 rest)
+
+  pub post-rest : (m : ℕ) (side : Side) (y : Post) → IsAtRest (filter (holds g) runs) → ExpectedPost setting.estate g m side runs y → PostAtRest m (filter (holds g) runs) side (group_state setting.estate g runs) y
+  post-rest m side y rest expected = any_at_rest m (filter (holds g) runs) side (group_state setting.estate g runs) y (post-rest_last m side y rest expected)
 
   -- a group that an open run holds
   pub post-under_way : (r : Run) (m : ℕ) (side : Side) (y : Post) → last_of_group g runs ≡ Some r → is_finished r ≡ false → ExpectedPost setting.estate g m side runs y → (left : Type 0) × PostUnderWay (op r) (wanted g r m) left (same_side side r.old) y
@@ -45,7 +48,7 @@ module _ (setting : Setting) (runs : List Run) (well : IsWellKept setting runs) 
       let (earlier, e) = filter-find (holds g) runs r last in
       let chain = chain_posts setting.estate g m side (filter (holds g) runs) (well.groups g).chain own_estate y expected in
       let under : UnderPost setting.estate g m side (r ∷ earlier) y = rw e at chain.1 in
-      (WasLeft m earlier, under going)
+      (LastLeft m earlier, under going)
 
   -- after a finished start-up
   pub post-stands : (r : Run) (m : ℕ) (side : Side) (y : Post) → last_of_group g runs ≡ Some r → is_finished r ≡ true → is_start_up (op r) ≡ true → same_side side r.old ≡ false → ExpectedPost setting.estate g m side runs y → IsAsWanted (wanted g r m) y
@@ -126,6 +129,9 @@ stands_as_wanted setting records g m r y lawful last up expected = go (is_finish
 
 pub posts_by_state : (setting : Setting) (records : List Record) (g m : ℕ) (side : Side) (y : Post) → LawfulAfter setting [] records → IsAtRest (filter (holds g) (runs_of setting records)) → ExpectedPost setting.estate g m side (runs_of setting records) y → PostAtRest m (filter (holds g) (runs_of setting records)) side (group_state setting.estate g (runs_of setting records)) y
 posts_by_state setting records g m side y lawful rest expected = post-rest setting (runs_of setting records) (kept-lawful setting [] records lawful (empty_kept setting)) g m side y rest expected
+
+pub posts_by_last : (setting : Setting) (records : List Record) (g m : ℕ) (side : Side) (y : Post) → LawfulAfter setting [] records → IsAtRest (filter (holds g) (runs_of setting records)) → ExpectedPost setting.estate g m side (runs_of setting records) y → LastAtRest m (filter (holds g) (runs_of setting records)) side (group_state setting.estate g (runs_of setting records)) y
+posts_by_last setting records g m side y lawful rest expected = post-rest_last setting (runs_of setting records) (kept-lawful setting [] records lawful (empty_kept setting)) g m side y rest expected
 
 pub begin_keeps_posts : (setting : Setting) (records : List Record) (n stage g m : ℕ) (side : Side) (y : Post) → LawfulAfter setting [] records → MayCome setting (runs_of setting records) (Record.Begin n stage) → ExpectedPost setting.estate g m side (runs_of setting records) y → ExpectedPost setting.estate g m side (add_record setting (runs_of setting records) (Record.Begin n stage)) y
 begin_keeps_posts setting records n stage g m side y lawful may expected = lawful-post_begin setting (runs_of setting records) (kept-lawful setting [] records lawful (empty_kept setting)) g m side y n stage may expected

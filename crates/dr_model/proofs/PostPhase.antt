@@ -1,5 +1,5 @@
 -- What posts a group's state allows, and what an unfinished run may have made of them.
-use Rattle.std.specs.Prelude.{◌≡◌, ℕ, ◌⊎◌, Bool, true, false, not, ◌&&◌, List, [], ◌∷◌, IsTrue}
+use Rattle.std.specs.Prelude.{◌≡◌, ℕ, ◌⊎◌, Bool, true, false, not, ◌&&◌, List, [], ◌∷◌, IsTrue, IsSomeAnd, Some, None, find}
 use Rattle.std.specs.Bool.{MatchBool}
 use Rattle.std.proofs.Common.{refl, sym, ap, ◌∙◌, subst, inl, inr}
 use Rattle.dr_meaning.specs.Types.{Side, Op, Placed, Post, Estate, Phase, GroupState}
@@ -15,6 +15,7 @@ use Rattle.dr_meaning.specs.Outcomes.{PostOutcome, IsAsWanted}
 use Rattle.dr_meaning.specs.Reach.{Through, is_complete, works, side_of_wave, PostStep, ReachPost, stage_of}
 use Rattle.dr_meaning.specs.Meaning.{is_left, OldPostMeaning, NewPostMeaning, MeansPost}
 use Rattle.dr_meaning.specs.Expected.{After, LeavesPost, is_in_bubble, wanted}
+use Rattle.dr_meaning.specs.Fits.{is_recovery}
 use Rattle.dr_meaning.specs.Lawful.{StartsFrom, takes_over}
 use Rattle.dr_meaning.specs.InOrder.{is_start_up}
 use Rattle.dr_meaning.specs.Worlds.{IsOpeningPost}
@@ -112,6 +113,33 @@ module _ (run : Run) (m : ℕ) (w : Placed) where
       (λ s k t x y p o. absurd (elsewhere (new run) s (rw (k, e) (side_of_other run.old)) t))
       (λ kind t x y p o. absurd cc)
 
+-- Who left a machine
+
+-- the last recovery of these runs, newest first, left the machine
+abbrev pub LastLeft : ℕ → List Run → Type 0
+LastLeft m runs = IsSomeAnd (find (λ r. is_recovery (op r)) runs) (λ r. IsTrue (is_left r m))
+
+pass_on : (r : Run) (m : ℕ) (earlier : List Run) → is_recovery (op r) ≡ false → LastLeft m earlier → LastLeft m (r ∷ earlier)
+pass_on r m earlier e h = rw e h
+
+just_left : (r : Run) (m : ℕ) (earlier : List Run) → is_recovery (op r) ≡ true → IsTrue (is_left r m) → LastLeft m (r ∷ earlier)
+just_left r m earlier e h = rw e h
+
+-- then one of them did
+was_left : (m : ℕ) (runs : List Run) → LastLeft m runs → WasLeft m runs
+was_left m [] h = elim h [ ]
+was_left m (r ∷ runs) h = go (is_recovery (op r)) refl (was_left m runs)
+  where
+    go : (b : Bool) → is_recovery (op r) ≡ b → (LastLeft m runs → WasLeft m runs) → WasLeft m (r ∷ runs)
+    go true e more = inl (rw e at h)
+    go false e more = inr (more (rw e at h))
+
+-- a run that is no recovery takes over none
+taken_kind : (o oq : Op) → takes_over o oq ≡ true → is_recovery o ≡ false → is_recovery oq ≡ false
+taken_kind Op.Cleanup Op.Testing takes e = refl
+taken_kind Op.Failover oq takes e = absurd cc
+taken_kind _ _ takes e = absurd cc
+
 -- From phase to phase
 
 pub same_side-other : (side home : Side) → same_side side (other home) ≡ not (same_side side home)
@@ -127,31 +155,47 @@ serves left left_then f x y e (inr l) = inr (f l)
 ready_serves : (left : Type 0) (w : Placed) (y : Post) → w.bubble ≡ false → y ≡ Post.Ready w → IsInService y ⊎ left
 ready_serves left w y outside e = inl (rw e outside)
 
-module _ (r : Run) (m : ℕ) (w : Placed) (left left_then : Type 0) (f : left → left_then) (leaves : IsTrue (is_left r m) → left_then) where
-  failed_over : (y x : Post) → w.bubble ≡ false → NewPostMeaning Op.Failover r m w x y → IsInService y ⊎ left_then
-  failed_over y x outside (inl e) = ready_serves left_then w y outside e
-  failed_over y x outside (inr l) = inr (leaves l.0)
+-- a post at rest, by those who left the machine
+in_phase_left : (left left_then : Type 0) → (left → left_then) → (phase : Phase) (home : Bool) (y : Post) → PostInPhase left phase home y → PostInPhase left_then phase home y
+in_phase_left left left_then f Phase.Ready true y h = serves left left_then f y y refl h
+in_phase_left left left_then f Phase.Ready false y h = h
+in_phase_left left left_then f Phase.Tested true y h = serves left left_then f y y refl h
+in_phase_left left left_then f Phase.Tested false y h = h
+in_phase_left left left_then f Phase.Recovered true y h = h
+in_phase_left left left_then f Phase.Recovered false y h = serves left left_then f y y refl h
+
+-- a machine's post at a side as the state of its group wants it, by the last recovery
+abbrev pub LastAtRest : ℕ → List Run → Side → GroupState → Post → Type 0
+LastAtRest m runs side state y = PostInPhase (LastLeft m runs) state.phase (same_side side state.protected) y
+
+pub any_at_rest : (m : ℕ) (runs : List Run) (side : Side) (state : GroupState) (y : Post) → LastAtRest m runs side state y → PostAtRest m runs side state y
+any_at_rest m runs side state y h = in_phase_left (LastLeft m runs) (WasLeft m runs) (was_left m runs) state.phase (same_side side state.protected) y h
+
+module _ (r : Run) (m : ℕ) (w : Placed) (left left_then : Type 0) where
+  failed_over : (IsTrue (is_left r m) → left_then) → (y x : Post) → w.bubble ≡ false → NewPostMeaning Op.Failover r m w x y → IsInService y ⊎ left_then
+  failed_over leaves y x outside (inl e) = ready_serves left_then w y outside e
+  failed_over leaves y x outside (inr l) = inr (leaves l.0)
 
   -- a finished run
-  finish_post : (o : Op) (forced : Bool) → w.bubble ≡ is_in_bubble o → (side : Side) (state : GroupState) (b : Bool) → same_side side state.protected ≡ b → (plan : ℕ) → StartsFrom o plan state → (x y : Post) → PostInPhase left state.phase b x → MatchBool b (OldPostMeaning o forced r m x y) (NewPostMeaning o r m w x y) → PostInPhase left_then (finish o plan state).phase (same_side side (finish o plan state).protected) y
-  finish_post Op.Testing forced bub side state true e plan from x y rest means = rw e (serves left left_then f x y means (rw from at rest))
-  finish_post Op.Testing forced bub side state false e plan from x y rest means = rw (e, means) bub
-  finish_post Op.Cleanup forced bub side state true e plan from x y rest means = rw e (serves left left_then f x y means (rw from.0 at rest))
-  finish_post Op.Cleanup forced bub side state false e plan from x y rest means = rw e means
-  finish_post Op.Migrate forced bub side state true e plan from x y rest means = rw e tt
-  finish_post Op.Migrate forced bub side state false e plan from x y rest means = rw e (ready_serves left_then w y bub means)
-  finish_post Op.Failover forced bub side state true e plan from x y rest means = rw e tt
-  finish_post Op.Failover forced bub side state false e plan from x y rest means = rw e (failed_over y x bub means)
-  finish_post Op.Reprotect forced bub side state true e plan from x y rest means = rw (same_side-other side state.protected, e) means
-  finish_post Op.Reprotect forced bub side state false e plan from x y rest means = rw (same_side-other side state.protected, e) (serves left left_then f x y means (rw from.0 at rest))
+  finish_post : (o : Op) → (is_recovery o ≡ false → left → left_then) → (is_recovery o ≡ true → IsTrue (is_left r m) → left_then) → (forced : Bool) → w.bubble ≡ is_in_bubble o → (side : Side) (state : GroupState) (b : Bool) → same_side side state.protected ≡ b → (plan : ℕ) → StartsFrom o plan state → (x y : Post) → PostInPhase left state.phase b x → MatchBool b (OldPostMeaning o forced r m x y) (NewPostMeaning o r m w x y) → PostInPhase left_then (finish o plan state).phase (same_side side (finish o plan state).protected) y
+  finish_post Op.Testing f leaves forced bub side state true e plan from x y rest means = rw e (serves left left_then (f refl) x y means (rw from at rest))
+  finish_post Op.Testing f leaves forced bub side state false e plan from x y rest means = rw (e, means) bub
+  finish_post Op.Cleanup f leaves forced bub side state true e plan from x y rest means = rw e (serves left left_then (f refl) x y means (rw from.0 at rest))
+  finish_post Op.Cleanup f leaves forced bub side state false e plan from x y rest means = rw e means
+  finish_post Op.Migrate f leaves forced bub side state true e plan from x y rest means = rw e tt
+  finish_post Op.Migrate f leaves forced bub side state false e plan from x y rest means = rw e (ready_serves left_then w y bub means)
+  finish_post Op.Failover f leaves forced bub side state true e plan from x y rest means = rw e tt
+  finish_post Op.Failover f leaves forced bub side state false e plan from x y rest means = rw e (failed_over (leaves refl) y x bub means)
+  finish_post Op.Reprotect f leaves forced bub side state true e plan from x y rest means = rw (same_side-other side state.protected, e) means
+  finish_post Op.Reprotect f leaves forced bub side state false e plan from x y rest means = rw (same_side-other side state.protected, e) (serves left left_then (f refl) x y means (rw from.0 at rest))
 
   -- a finished run over an unfinished one that it took over
-  over_post : (o oq : Op) (wq : Placed) (forced : Bool) → w.bubble ≡ is_in_bubble o → takes_over o oq ≡ true → (side : Side) (state : GroupState) (b : Bool) → same_side side state.protected ≡ b → (plan : ℕ) (x y : Post) → PostUnderWay oq wq left b x → MatchBool b (OldPostMeaning o forced r m x y) (NewPostMeaning o r m w x y) → PostInPhase left_then (finish o plan state).phase (same_side side (finish o plan state).protected) y
-  over_post Op.Cleanup Op.Testing wq forced bub takes side state true e plan x y under means = rw e (serves left left_then f x y means under)
-  over_post Op.Cleanup Op.Testing wq forced bub takes side state false e plan x y under means = rw e means
-  over_post Op.Failover Op.Migrate wq forced bub takes side state true e plan x y under means = rw e tt
-  over_post Op.Failover Op.Migrate wq forced bub takes side state false e plan x y under means = rw e (failed_over y x bub means)
-  over_post _ _ wq forced bub takes side state b e plan x y under means = absurd cc
+  over_post : (o oq : Op) → (is_recovery o ≡ false → is_recovery oq ≡ false → left → left_then) → (is_recovery o ≡ true → IsTrue (is_left r m) → left_then) → (wq : Placed) (forced : Bool) → w.bubble ≡ is_in_bubble o → takes_over o oq ≡ true → (side : Side) (state : GroupState) (b : Bool) → same_side side state.protected ≡ b → (plan : ℕ) (x y : Post) → PostUnderWay oq wq left b x → MatchBool b (OldPostMeaning o forced r m x y) (NewPostMeaning o r m w x y) → PostInPhase left_then (finish o plan state).phase (same_side side (finish o plan state).protected) y
+  over_post Op.Cleanup Op.Testing f leaves wq forced bub takes side state true e plan x y under means = rw e (serves left left_then (f refl refl) x y means under)
+  over_post Op.Cleanup Op.Testing f leaves wq forced bub takes side state false e plan x y under means = rw e means
+  over_post Op.Failover Op.Migrate f leaves wq forced bub takes side state true e plan x y under means = rw e tt
+  over_post Op.Failover Op.Migrate f leaves wq forced bub takes side state false e plan x y under means = rw e (failed_over (leaves refl) y x bub means)
+  over_post _ _ f leaves wq forced bub takes side state b e plan x y under means = absurd cc
 
   -- an unfinished run, where it starts
   starts_post : (o : Op) (plan : ℕ) (state : GroupState) (b : Bool) → StartsFrom o plan state → (x : Post) → PostInPhase left state.phase b x → PostUnderWay o w left b x
@@ -174,17 +218,17 @@ takes_post Op.Failover Op.Migrate w wq left true takes same x under = tt
 takes_post Op.Failover Op.Migrate w wq left false takes same x under = subst (λ v. IsAsWanted v x) (same refl) under
 takes_post _ _ w wq left b takes same x under = absurd cc
 
-under_left : (o : Op) (w : Placed) (left left_then : Type 0) → (left → left_then) → (b : Bool) (x : Post) → PostUnderWay o w left b x → PostUnderWay o w left_then b x
-under_left Op.Testing w left left_then f true x h = serves left left_then f x x refl h
+under_left : (o : Op) (w : Placed) (left left_then : Type 0) → (is_recovery o ≡ false → left → left_then) → (b : Bool) (x : Post) → PostUnderWay o w left b x → PostUnderWay o w left_then b x
+under_left Op.Testing w left left_then f true x h = serves left left_then (f refl) x x refl h
 under_left Op.Testing w left left_then f false x h = h
-under_left Op.Cleanup w left left_then f true x h = serves left left_then f x x refl h
+under_left Op.Cleanup w left left_then f true x h = serves left left_then (f refl) x x refl h
 under_left Op.Cleanup w left left_then f false x h = h
 under_left Op.Migrate w left left_then f true x h = h
 under_left Op.Migrate w left left_then f false x h = h
 under_left Op.Failover w left left_then f true x h = h
 under_left Op.Failover w left left_then f false x h = h
 under_left Op.Reprotect w left left_then f true x h = h
-under_left Op.Reprotect w left left_then f false x h = serves left left_then f x x refl h
+under_left Op.Reprotect w left left_then f false x h = serves left left_then (f refl) x x refl h
 
 -- and after any of its stages
 under_way_post : (o : Op) (r : Run) (m : ℕ) (side : Side) (w : Placed) (left : Type 0) (b : Bool) → op r ≡ o → same_side side r.old ≡ b → (x y : Post) → ReachPost r m side w x y → PostUnderWay o w left b x → PostUnderWay o w left b y
@@ -224,9 +268,9 @@ migrate_of Op.Reprotect e = absurd cc
 same_wanted : (g : ℕ) (r q : Run) (m : ℕ) → op r ≡ Op.Failover → op q ≡ Op.Migrate → q.estate ≡ r.estate → q.old ≡ r.old → wanted g q m ≡ wanted g r m
 same_wanted g r q m er eq estate old = rw (er, eq, estate, old) refl
 
-opening_rest : (b : Bool) (x : Post) → MatchBool b (IsInService x) (x ≡ Post.Placeholder) → PostInPhase ⊥ Phase.Ready b x
-opening_rest true x h = inl h
-opening_rest false x h = h
+opening_rest : (left : Type 0) (b : Bool) (x : Post) → MatchBool b (IsInService x) (x ≡ Post.Placeholder) → PostInPhase left Phase.Ready b x
+opening_rest left true x h = inl h
+opening_rest left false x h = h
 
 pub meant_as_wanted : (o : Op) (r : Run) (m : ℕ) (w : Placed) (left : Type 0) (x y : Post) → is_start_up o ≡ true → PostUnderWay o w left false x → NewPostMeaning o r m w x y → IsAsWanted w y
 meant_as_wanted Op.Testing r m w left x y up h means = rw means refl
@@ -244,11 +288,11 @@ module _ (estate : Estate) (g m : ℕ) (side : Side) where
   LeavesIts run x y = LeavesPost run m side (wanted g run m) x y
 
   abbrev pub RestPost : List Run → Post → Type 0
-  RestPost hs y = IsAtRest hs → PostAtRest m hs side (group_state estate g hs) y
+  RestPost hs y = IsAtRest hs → LastAtRest m hs side (group_state estate g hs) y
 
   abbrev pub UnderPost : List Run → Post → Type 0
   UnderPost [] y = Unit {0}
-  UnderPost (q ∷ earlier) y = is_finished q ≡ false → PostUnderWay (op q) (wanted g q m) (WasLeft m earlier) (same_side side q.old) y
+  UnderPost (q ∷ earlier) y = is_finished q ≡ false → PostUnderWay (op q) (wanted g q m) (LastLeft m earlier) (same_side side q.old) y
 
   module _ (r : Run) (earlier : List Run) (x y : Post) (held : holds g r ≡ true) (old : r.old ≡ (group_state estate g earlier).protected) where
     state : GroupState
@@ -257,19 +301,19 @@ module _ (estate : Estate) (g m : ℕ) (side : Side) where
     home : same_side side (group_state estate g earlier).protected ≡ same_side side r.old
     home = ap (same_side side) (sym old)
 
-    from_rest : PostAtRest m earlier side (group_state estate g earlier) x → PostInPhase (WasLeft m earlier) (group_state estate g earlier).phase (same_side side r.old) x
-    from_rest rest = subst (λ b. PostInPhase (WasLeft m earlier) (group_state estate g earlier).phase b x) home rest
+    from_rest : LastAtRest m earlier side (group_state estate g earlier) x → PostInPhase (LastLeft m earlier) (group_state estate g earlier).phase (same_side side r.old) x
+    from_rest rest = subst (λ b. PostInPhase (LastLeft m earlier) (group_state estate g earlier).phase b x) home rest
 
-    finish_over_rest : StartsFrom (op r) r.start.plan (group_state estate g earlier) → PostAtRest m earlier side (group_state estate g earlier) x → MeansPost r m side (wanted g r m) x y → PostAtRest m (r ∷ earlier) side (finish (op r) r.start.plan (group_state estate g earlier)) y
+    finish_over_rest : StartsFrom (op r) r.start.plan (group_state estate g earlier) → LastAtRest m earlier side (group_state estate g earlier) x → MeansPost r m side (wanted g r m) x y → LastAtRest m (r ∷ earlier) side (finish (op r) r.start.plan (group_state estate g earlier)) y
     finish_over_rest from rest means =
-        finish_post r m (wanted g r m) (WasLeft m earlier) (WasLeft m (r ∷ earlier)) inr inl (op r) r.start.forced refl side (group_state estate g earlier) (same_side side r.old) home r.start.plan from x y (from_rest rest) means
+        finish_post r m (wanted g r m) (LastLeft m earlier) (LastLeft m (r ∷ earlier)) (op r) (pass_on r m earlier) (just_left r m earlier) r.start.forced refl side (group_state estate g earlier) (same_side side r.old) home r.start.plan from x y (from_rest rest) means
 
-    start_from_rest : StartsFrom (op r) r.start.plan (group_state estate g earlier) → PostAtRest m earlier side (group_state estate g earlier) x → PostUnderWay (op r) (wanted g r m) (WasLeft m earlier) (same_side side r.old) x
-    start_from_rest from rest = starts_post r m (wanted g r m) (WasLeft m earlier) (WasLeft m (r ∷ earlier)) inr inl (op r) r.start.plan (group_state estate g earlier) (same_side side r.old) from x (from_rest rest)
+    start_from_rest : StartsFrom (op r) r.start.plan (group_state estate g earlier) → LastAtRest m earlier side (group_state estate g earlier) x → PostUnderWay (op r) (wanted g r m) (LastLeft m earlier) (same_side side r.old) x
+    start_from_rest from rest = starts_post r m (wanted g r m) (LastLeft m earlier) (LastLeft m (r ∷ earlier)) (op r) r.start.plan (group_state estate g earlier) (same_side side r.old) from x (from_rest rest)
 
   -- a run under way, from where it starts
-  under_from : (r : Run) (earlier : List Run) (x y : Post) → PostUnderWay (op r) (wanted g r m) (WasLeft m earlier) (same_side side r.old) x → is_finished r ≡ false → ReachPost r m side (wanted g r m) x y → UnderPost (r ∷ earlier) y
-  under_from r earlier x y start going reach e = under_way_post (op r) r m side (wanted g r m) (WasLeft m earlier) (same_side side r.old) refl refl x y reach start
+  under_from : (r : Run) (earlier : List Run) (x y : Post) → PostUnderWay (op r) (wanted g r m) (LastLeft m earlier) (same_side side r.old) x → is_finished r ≡ false → ReachPost r m side (wanted g r m) x y → UnderPost (r ∷ earlier) y
+  under_from r earlier x y start going reach e = under_way_post (op r) r m side (wanted g r m) (LastLeft m earlier) (same_side side r.old) refl refl x y reach start
 
   -- a finished start-up, from where it starts
   wanted_from : (r : Run) (left : Type 0) (x y : Post) → PostUnderWay (op r) (wanted g r m) left (same_side side r.old) x → MeansPost r m side (wanted g r m) x y → is_start_up (op r) ≡ true → same_side side r.old ≡ false → IsAsWanted (wanted g r m) y
@@ -282,39 +326,39 @@ module _ (estate : Estate) (g m : ℕ) (side : Side) where
 
   -- The posts that are expected, by the group's state or by the run that is under way.
   pub chain_posts : (hs : List Run) → IsChain estate g hs → Each (λ r. r.estate ≡ estate) hs → (y : Post) → After OpensPost LeavesIts hs y → RestPost hs y × UnderPost hs y × StandsPost hs y
-  chain_posts [] chain est y opening = (λ rest. opening_rest (same_side side (named_side estate g)) y opening, tt, tt)
+  chain_posts [] chain est y opening = (λ rest. opening_rest (LastLeft m []) (same_side side (named_side estate g)) y opening, tt, tt)
   chain_posts (r ∷ []) chain est y (x, before, leaves) =
-      let rest : PostAtRest m [] side (group_state estate g []) x = opening_rest (same_side side (named_side estate g)) x before in
+      let rest : LastAtRest m [] side (group_state estate g []) x = opening_rest (LastLeft m []) (same_side side (named_side estate g)) x before in
       let start = start_from_rest r [] x y chain.0 chain.1 chain.2 rest in (
         λ fin. rw (after_finished estate g r [] chain.0 fin) (finish_over_rest r [] x y chain.0 chain.1 chain.2 rest (rw fin at leaves)),
         λ going. under_from r [] x y start going (rw going at leaves) going,
-        λ fin. wanted_from r ⊥ x y start (rw fin at leaves),
+        λ fin. wanted_from r (LastLeft m []) x y start (rw fin at leaves),
       )
   chain_posts (r ∷ q ∷ rest) chain est y (x, before, leaves) =
       let ih = chain_posts (q ∷ rest) chain.3 est.1 x before in
       let start = starts chain.2 ih in (
         λ fin. rw (after_finished estate g r (q ∷ rest) chain.0 fin) (finishes chain.2 ih (rw fin at leaves)),
         λ going. under_from r (q ∷ rest) x y start going (rw going at leaves) going,
-        λ fin. wanted_from r (WasLeft m (q ∷ rest)) x y start (rw fin at leaves),
+        λ fin. wanted_from r (LastLeft m (q ∷ rest)) x y start (rw fin at leaves),
       )
     where
       same_old : is_finished q ≡ false → q.old ≡ r.old
       same_old going = chain.3.1 ∙ ap (λ state. state.protected) (sym (after_unfinished estate g q rest going)) ∙ sym chain.1
 
-      under : is_finished q ≡ false → UnderPost (q ∷ rest) x → PostUnderWay (op q) (wanted g q m) (WasLeft m rest) (same_side side r.old) x
-      under going u = subst (λ old. PostUnderWay (op q) (wanted g q m) (WasLeft m rest) (same_side side old) x) (same_old going) (u going)
+      under : is_finished q ≡ false → UnderPost (q ∷ rest) x → PostUnderWay (op q) (wanted g q m) (LastLeft m rest) (same_side side r.old) x
+      under going u = subst (λ old. PostUnderWay (op q) (wanted g q m) (LastLeft m rest) (same_side side old) x) (same_old going) (u going)
 
       same : is_finished q ≡ false → takes_over (op r) (op q) ≡ true → op r ≡ Op.Failover → wanted g q m ≡ wanted g r m
       same going takes e = same_wanted g r q m e (migrate_of (op q) (let t : takes_over Op.Failover (op q) ≡ true = rw e at takes in t)) (est.1.0 ∙ sym est.0) (same_old going)
 
-      finishes : StartsAt estate g r (q ∷ rest) → RestPost (q ∷ rest) x × UnderPost (q ∷ rest) x × StandsPost (q ∷ rest) x → MeansPost r m side (wanted g r m) x y → PostAtRest m (r ∷ q ∷ rest) side (finish (op r) r.start.plan (group_state estate g (q ∷ rest))) y
+      finishes : StartsAt estate g r (q ∷ rest) → RestPost (q ∷ rest) x × UnderPost (q ∷ rest) x × StandsPost (q ∷ rest) x → MeansPost r m side (wanted g r m) x y → LastAtRest m (r ∷ q ∷ rest) side (finish (op r) r.start.plan (group_state estate g (q ∷ rest))) y
       finishes (inl (fin, from)) ih means = finish_over_rest r (q ∷ rest) x y chain.0 chain.1 from (ih.0 fin) means
       finishes (inr (going, takes)) ih means =
-          over_post r m (wanted g r m) (WasLeft m rest) (WasLeft m (r ∷ q ∷ rest)) (λ l. inr (inr l)) inl (op r) (op q) (wanted g q m) r.start.forced refl takes side (group_state estate g (q ∷ rest)) (same_side side r.old)
+          over_post r m (wanted g r m) (LastLeft m rest) (LastLeft m (r ∷ q ∷ rest)) (op r) (op q) (λ e eq l. pass_on r m (q ∷ rest) e (pass_on q m rest eq l)) (just_left r m (q ∷ rest)) (wanted g q m) r.start.forced refl takes side (group_state estate g (q ∷ rest)) (same_side side r.old)
           (ap (same_side side) (sym chain.1)) r.start.plan x y (under going ih.1) means
 
-      starts : StartsAt estate g r (q ∷ rest) → RestPost (q ∷ rest) x × UnderPost (q ∷ rest) x × StandsPost (q ∷ rest) x → PostUnderWay (op r) (wanted g r m) (WasLeft m (q ∷ rest)) (same_side side r.old) x
+      starts : StartsAt estate g r (q ∷ rest) → RestPost (q ∷ rest) x × UnderPost (q ∷ rest) x × StandsPost (q ∷ rest) x → PostUnderWay (op r) (wanted g r m) (LastLeft m (q ∷ rest)) (same_side side r.old) x
       starts (inl (fin, from)) ih = start_from_rest r (q ∷ rest) x y chain.0 chain.1 from (ih.0 fin)
       starts (inr (going, takes)) ih =
-          under_left (op r) (wanted g r m) (WasLeft m rest) (WasLeft m (q ∷ rest)) inr (same_side side r.old) x
-          (takes_post (op r) (op q) (wanted g r m) (wanted g q m) (WasLeft m rest) (same_side side r.old) takes (same going takes) x (under going ih.1))
+          under_left (op r) (wanted g r m) (LastLeft m rest) (LastLeft m (q ∷ rest)) (λ e. pass_on q m rest (taken_kind (op r) (op q) takes e)) (same_side side r.old) x
+          (takes_post (op r) (op q) (wanted g r m) (wanted g q m) (LastLeft m rest) (same_side side r.old) takes (same going takes) x (under going ih.1))

@@ -19,7 +19,7 @@ IsTable (r ∷ earlier) = (number r ≡ length earlier + 1) × Each (LeavesFree 
 
 -- Falling numbers
 
-numbers_below : (runs : List Run) → IsTable runs → Each (λ q. number q < length runs + 1) runs
+pub numbers_below : (runs : List Run) → IsTable runs → Each (λ q. number q < length runs + 1) runs
 numbers_below [] t = tt
 numbers_below (r ∷ earlier) t = (omega arith, each-map (λ q. number q < length earlier + 1) (λ q. number q < length (r ∷ earlier) + 1) (λ q lt. omega arith) earlier (numbers_below earlier t.2))
 
@@ -52,7 +52,7 @@ open_is_last n g r runs t at_n going held = open_is_last_of (λ run. number run 
 
 -- Each record keeps the table
 
-length-map_runs : (f : Run → Run) (runs : List Run) → length (map f runs) ≡ length runs
+pub length-map_runs : (f : Run → Run) (runs : List Run) → length (map f runs) ≡ length runs
 length-map_runs f [] = refl
 length-map_runs f (r ∷ runs) = ap (λ n. suc n) (length-map_runs f runs)
 

@@ -4,7 +4,7 @@ use Rattle.std.proofs.Common.{refl, ap, ◌∙◌, inl}
 use Rattle.dr_meaning.specs.Types.{Side, Placed, Post}
 use Rattle.dr_meaning.specs.declared.stage.Stage.{Stage}
 use Rattle.dr_outside.specs.Pairs.{Frame}
-use Rattle.dr_meaning.specs.Stages.{no_stage, stage_at}
+use Rattle.dr_meaning.specs.Stages.{no_stage}
 use Rattle.dr_meaning.specs.Visits.{Visit, visits}
 use Rattle.dr_meaning.specs.Runs.{Run, stages_of}
 use Rattle.dr_meaning.specs.Outcomes.{made_frame, made_post}

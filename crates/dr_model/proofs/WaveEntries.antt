@@ -35,7 +35,7 @@ one_entry (z ∷ zs) up x y (suc k, l, e) (suc i, r, f) same =
 
 -- The machines of a wave
 
-at_from : (plan : Plan) (p d k : ℕ) → has (machines_at plan.machines p d) k ≡ true → IsAt plan p d k
+pub at_from : (plan : Plan) (p d k : ℕ) → has (machines_at plan.machines p d) k ≡ true → IsAt plan p d k
 at_from plan p d k h =
     let is_there : PlanMachine → Bool = λ m. (m.priority == p) && (m.depth == d) in
     let (x, among, number) = mapped_from (λ (m : PlanMachine). m.machine) (filter is_there plan.machines) k (contains-has _ k h) in

@@ -1,7 +1,9 @@
-//! Laws of the definitions, by subject. Each stands as the contract of a function that does nothing. A
-//! list of records that is lawful is that of a journal behind its Estate.
+//! Laws of the definitions, by subject. Each stands as the contract of a function that does nothing. The
+//! runs that they speak of stand in a journal of some records.
 
 pub mod calls;
+pub mod changes;
+pub mod damage;
 pub mod drift;
 pub mod journals;
 pub mod records;

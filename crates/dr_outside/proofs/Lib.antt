@@ -5,3 +5,4 @@ mod ExitNames
 pub mod Listed
 pub mod MachineAt
 pub mod Making
+pub mod TokenLaws

@@ -1,6 +1,7 @@
 pub mod Arrays
 pub mod BySide
 pub mod Commands
+pub mod FirstCodes
 pub mod Counts
 pub mod Decimals
 pub mod ExitCodes

@@ -11,7 +11,8 @@ use Rattle.dr_outside.specs.declared.machine.PortFail.{PortFail}
 use Rattle.dr_outside.specs.declared.machine.PortFail.TheVariants.{Failed, Wrong, Ran}
 use Rattle.dr_outside.specs.BySide.{at}
 use Rattle.dr_outside.specs.Counts.{one_more_at}
-use Rattle.dr_outside.specs.Commands.{code_of}
+use Rattle.dr_outside.specs.Commands.{code_of, HasTokensOnce}
+use Rattle.dr_outside.specs.FirstCodes.{first_codes, first_once}
 use Rattle.dr_base.specs.Lists.{has}
 use Rattle.dr_outside.specs.Machines.{PortState}
 
@@ -38,9 +39,13 @@ opening_port fails =
       faults = record { a = 0; b = 0 };
     }
 
--- what it holds, as of any port
+-- what it holds, as of any port: of several codes for one token the first
 abbrev pub state_of : PlainPortState → PortState
-state_of plain = record { post = plain.post; kept = plain.kept; faults = λ side. at side plain.faults }
+state_of plain = record { post = plain.post; kept = first_codes plain.kept; faults = λ side. at side plain.faults }
+
+-- it keeps one code for a token
+pub each_once : (plain : PlainPortState) → HasTokensOnce (state_of plain).kept
+each_once plain = first_once plain.kept
 
 -- whether the next call is to fail
 abbrev pub is_to_fail : PlainPortState → Bool

@@ -9,7 +9,7 @@ ghost use Rattle.dr_outside.specs.Counts.{one_more_at};
 ghost use Rattle.dr_outside.specs.Commands.{code_of};
 ghost use Rattle.dr_base.specs.Lists.{has};
 ghost use Rattle.dr_outside.specs.Machines.{PortStep, PortRead, PortCause, RanRead, CommandStep, NeverRan, NeverWrong};
-ghost use Rattle.dr_outside.specs.PlainPorts.{opening_port, state_of, Counted, is_to_fail, CallEnds, CommandEnds};
+ghost use Rattle.dr_outside.specs.PlainPorts.{opening_port, state_of, each_once, Counted, is_to_fail, CallEnds, CommandEnds};
 
 use crate::{Kept, Placed, Port, PortCall, PortFail, Post, Sides};
 use dr_base::{Name, Placement, Side};
@@ -94,6 +94,8 @@ impl Port for PlainPort {
     ghost tells = { Unit {0} };
 
     ghost state = { state_of };
+
+    ghost once = { λ port told. each_once port };
 
     fn post(&mut self, side: Side) -> Result<Post, PortFail>
         ensures only { IfErr result (λ e. e ≡ Failed) }

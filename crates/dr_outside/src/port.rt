@@ -1,4 +1,5 @@
 ghost use Rattle.std.specs.Prelude.{◌≡◌, IfErr};
+ghost use Rattle.dr_outside.specs.Commands.{HasTokensOnce};
 ghost use Rattle.dr_outside.specs.Machines.{PortState, PortStep, PortRead, PortCause, RanRead, CommandStep, NeverRan, NeverWrong};
 ghost use Rattle.dr_outside.specs.declared.machine.PortCall.TheVariants.{Register, Start, Stop, Unregister};
 ghost use Rattle.dr_outside.specs.declared.machine.PortFail.TheVariants.{Failed};
@@ -18,6 +19,9 @@ pub trait Port {
 
     /// Its posts, kept codes and faults.
     ghost state: { Self → PortState };
+
+    /// Where it tells its codes, it keeps one for a token.
+    ghost once: { (port : Self) → tells → HasTokensOnce (state port).kept };
 
     /// How the machine stands at a side.
     fn post(&mut self, side: Side) -> Result<Post, PortFail>

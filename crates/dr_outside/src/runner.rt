@@ -1,4 +1,5 @@
 ghost use Rattle.std.specs.Prelude.{◌≡◌, IfErr};
+ghost use Rattle.dr_outside.specs.Commands.{HasTokensOnce};
 ghost use Rattle.dr_outside.specs.Runners.{RunnerState, RunnerCause, RanRead, CallStep};
 ghost use Rattle.dr_outside.specs.declared.runner.RunnerFail.TheVariants.{Failed};
 
@@ -21,6 +22,9 @@ pub trait Runner {
 
     /// Its kept codes and faults.
     ghost state: { Self → RunnerState };
+
+    /// Where it tells its codes, it keeps one for a token.
+    ghost once: { (runner : Self) → tells → HasTokensOnce (state runner).kept };
 
     /// The code that is kept for a token.
     fn ran(&mut self, token: u64) -> Result<Option<u8>, RunnerFail>

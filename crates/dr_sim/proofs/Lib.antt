@@ -1,3 +1,4 @@
+pub mod Commanding
 pub mod Ending
 pub mod Entries
 pub mod Marking

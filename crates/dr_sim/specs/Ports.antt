@@ -14,6 +14,8 @@ use Rattle.dr_outside.specs.declared.runner.RunnerFail.{RunnerFail}
 use Rattle.dr_outside.specs.declared.runner.RunnerFail.TheVariants as runner
 use Rattle.dr_outside.specs.BySide.{at, put}
 use Rattle.dr_outside.specs.Counts.{one_more_at}
+use Rattle.dr_outside.specs.Commands.{HasTokensOnce}
+use Rattle.dr_outside.specs.FirstCodes.{first_codes, first_once}
 use Rattle.dr_outside.specs.Machines.{PortState, is_ready_for, post_after, with_power}
 use Rattle.dr_sim.specs.declared.faults.PortFault.{PortFault}
 use Rattle.dr_sim.specs.declared.meter.Meter.{Meter}
@@ -29,9 +31,9 @@ pub record SimPortState : Type 0 where
   pub faults : List PortFault
   pub counts : Sides ℕ
 
--- what it holds, as of any port
+-- what it holds, as of any port: of several codes for one token the first
 abbrev pub state_of : SimPortState → PortState
-state_of port = record { post = port.post; kept = port.codes.kept; faults = λ side. at side port.counts }
+state_of port = record { post = port.post; kept = first_codes port.codes.kept; faults = λ side. at side port.counts }
 
 -- the name of a site
 abbrev pub name_of : Side → List ℕ
@@ -41,6 +43,10 @@ name_of B = codes "B"
 -- where a machine runs at first: what it is placed in has its site's name
 abbrev pub opening_placed : Side → Placed
 opening_placed home = record { place = record { network = name_of home; folder = name_of home; pool = name_of home }; bubble = false }
+
+-- it keeps one code for a token
+pub each_once : (port : SimPortState) → HasTokensOnce (state_of port).kept
+each_once port = first_once port.codes.kept
 
 -- a machine at first: it is ready at its home, and has a place at the other side
 abbrev pub opening_port : Side → List PortFault → SimPortState

@@ -3,6 +3,8 @@ use Rattle.std.specs.Prelude.{ℕ, ◌≡◌, false, is_some, List, [], Option, 
 use Rattle.dr_base.specs.Causes.{count_after}
 use Rattle.dr_outside.specs.declared.runner.RunnerFail.{RunnerFail}
 use Rattle.dr_outside.specs.declared.runner.RunnerFail.TheVariants.{Failed}
+use Rattle.dr_outside.specs.Commands.{HasTokensOnce}
+use Rattle.dr_outside.specs.FirstCodes.{first_codes, first_once}
 use Rattle.dr_outside.specs.Runners.{RunnerState}
 use Rattle.dr_sim.specs.declared.faults.PortFault.{PortFault}
 use Rattle.dr_sim.specs.declared.meter.Meter.{Meter}
@@ -17,9 +19,13 @@ pub record SimRunnerState : Type 0 where
   pub faults : List PortFault
   pub count : ℕ
 
--- what it holds, as of any runner
+-- what it holds, as of any runner: of several codes for one token the first
 abbrev pub state_of : SimRunnerState → RunnerState
-state_of runner = record { kept = runner.codes.kept; faults = runner.count }
+state_of runner = record { kept = first_codes runner.codes.kept; faults = runner.count }
+
+-- it keeps one code for a token
+pub each_once : (runner : SimRunnerState) → HasTokensOnce (state_of runner).kept
+each_once runner = first_once runner.codes.kept
 
 -- a runner at first
 abbrev pub new_runner : List PortFault → SimRunnerState

@@ -8,7 +8,7 @@ ghost use Rattle.dr_outside.specs.declared.machine.Post.TheVariants.{On};
 ghost use Rattle.dr_outside.specs.Machines.{is_ready_for, with_power, PortStep, PortRead, PortCause, RanRead, CommandStep, NeverRan, NeverWrong};
 ghost use Rattle.dr_sim.specs.Commands.{answer_of};
 ghost use Rattle.dr_sim.specs.Meters.{counted, fuse_of};
-ghost use Rattle.dr_sim.specs.Ports.{opening_placed, opening_port, state_of, next_fault, post_left, after_call, call_answer, after_reading, reading, after_command, port_answer, IsQuiet};
+ghost use Rattle.dr_sim.specs.Ports.{opening_placed, opening_port, state_of, each_once, next_fault, post_left, after_call, call_answer, after_reading, reading, after_command, port_answer, IsQuiet};
 
 use crate::faults::{PortFault, port_fault};
 use crate::kept_codes::KeptCodes;
@@ -196,6 +196,8 @@ impl Port for SimPort {
     ghost tells = { Unit {0} };
 
     ghost state = { state_of };
+
+    ghost once = { λ port told. each_once port };
 
     fn post(&mut self, side: Side) -> Result<Post, PortFail>
         ensures only { IfErr result (λ e. e ≡ Failed) }

@@ -4,7 +4,7 @@ ghost use Rattle.dr_outside.specs.Commands.{code_of};
 ghost use Rattle.dr_outside.specs.Runners.{RunnerCause, RanRead, CallStep};
 ghost use Rattle.dr_sim.specs.Commands.{answer_of};
 ghost use Rattle.dr_sim.specs.Meters.{fuse_of};
-ghost use Rattle.dr_sim.specs.Runners.{new_runner, state_of, next_fault, after_reading, reading, after_command, IsQuiet};
+ghost use Rattle.dr_sim.specs.Runners.{new_runner, state_of, each_once, next_fault, after_reading, reading, after_command, IsQuiet};
 
 use crate::faults::{PortFault, port_fault};
 use crate::kept_codes::KeptCodes;
@@ -110,6 +110,8 @@ impl Runner for SimRunner {
     ghost tells = { Unit {0} };
 
     ghost state = { state_of };
+
+    ghost once = { λ runner told. each_once runner };
 
     fn ran(&mut self, token: u64) -> Result<Option<u8>, RunnerFail>
         ensures only { IfErr result (λ e. e ≡ Failed) }

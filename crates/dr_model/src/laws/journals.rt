@@ -1,7 +1,7 @@
-//! What a journal's file tells, and what an opening and an append leave of all images of a disk.
+//! What a journal's file tells, and what an opening, an append and a restart leave of all images of a disk.
 
-ghost use Rattle.std.specs.Prelude.{◌≡◌, ◌↔◌, ◌<◌, ℕ, List, [], ◌∷◌};
-ghost use Rattle.dr_disk.specs.Disk.{Follows};
+ghost use Rattle.std.specs.Prelude.{◌≡◌, ◌↔◌, ◌<◌, ℕ, List, [], ◌∷◌, Some};
+ghost use Rattle.dr_disk.specs.Disk.{NoOther, Follows, OnlyOne};
 ghost use Rattle.dr_journal.specs.Kept.{SameRecords, Appends, AppendsSome};
 ghost use Rattle.dr_groups.specs.Groups.{IsPairOf, IsMachineOf};
 ghost use Rattle.dr_outside.specs.BySide.{at};
@@ -12,6 +12,7 @@ ghost use Rattle.dr_meaning.specs.Runs.{Setting, Run, named_side, new, add_recor
 ghost use Rattle.dr_meaning.specs.Lawful.{MayCome};
 ghost use Rattle.dr_meaning.specs.Journals.{DeclaresSetting, IsSpelled, HasRecords, Tells, AllTell};
 ghost use Rattle.dr_meaning.specs.Sound.{IsSoundBy, IsSound, AreSound};
+ghost use Rattle.dr_meaning.specs.Images.{Keeps};
 ghost use Rattle.dr_meaning.specs.Backing.{HasRegularPlans};
 
 use dr_disk::Disk;
@@ -50,6 +51,19 @@ pub fn opening_keeps_sound<D: Disk>(before: &D, after: &D)
         AllTell setting runs (D.images before.now) → AllTell setting runs (D.images after.now) }
     ensures sound { (world : World) → Follows SameRecords (D.images before.now) (D.images after.now) →
         AreSound (D.images before.now) world → AreSound (D.images after.now) world }
+{}
+
+/// A restart finds one of the images, and the new disk has no other. What holds of each image then holds
+/// of those of the new disk: they are sound with the outside, tell what all told, and what was kept is kept.
+pub fn restart_finds_one_image<D: Disk, E: Disk>(before: &D, after: &E)
+    ensures images { (file : List ℕ) → D.images before.now file → OnlyOne (E.images after.now) (Some file) →
+        NoOther (D.images before.now) (E.images after.now) }
+    ensures sound { (file : List ℕ) (world : World) → D.images before.now file → OnlyOne (E.images after.now) (Some file) →
+        AreSound (D.images before.now) world → AreSound (E.images after.now) world }
+    ensures tell { (file : List ℕ) (setting : Setting) (runs : List Run) → D.images before.now file → OnlyOne (E.images after.now) (Some file) →
+        AllTell setting runs (D.images before.now) → AllTell setting runs (E.images after.now) }
+    ensures keeps { (file : List ℕ) → D.images before.now file → OnlyOne (E.images after.now) (Some file) →
+        Keeps (D.images before.now) (E.images after.now) }
 {}
 
 /// After a record was appended that may come, all images tell the runs with that record. At any exit

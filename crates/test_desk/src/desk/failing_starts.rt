@@ -23,6 +23,8 @@ impl Port for FailingPort {
 
     ghost state = { λ port. record { post = port.post; kept = []; faults = λ side. at side port.faults } };
 
+    ghost once = { λ port told. absurd told };
+
     fn post(&mut self, side: Side) -> Result<Post, PortFail> {
         Ok(self.post.at(side))
     }

@@ -1,5 +1,6 @@
 use Rattle.dr_model.proofs.LawSteps.{start_sound}
+use Rattle.dr_model.proofs.Standing.{regular_of}
 use Rattle.dr_model.proofs.laws.records.start_keeps_sound.Goals as goal
 
 pub returns : goal.returns
-returns c = λ setting records world row lawful plans. start_sound setting records lawful plans world row
+returns c = λ setting records runs s. rw s.runs_are (λ world row. start_sound setting s.rest s.lawful (regular_of setting records runs s) world row)

@@ -2,4 +2,4 @@ use Rattle.dr_model.proofs.PostLaws.{posts_by_state}
 use Rattle.dr_model.proofs.laws.runs.posts_by_state.Goals as goal
 
 pub returns : goal.returns
-returns c = posts_by_state
+returns c = λ setting records runs s. rw s.runs_are (λ group machine side y. posts_by_state setting s.rest group machine side y s.lawful)
