@@ -83,4 +83,7 @@ pub mod SinceKept
 pub mod StartOnce
 pub mod LinesAreOne
 pub mod DamageLaws
+pub mod ExampleEstate
 pub mod ChangeExamples
+pub mod LineExamples
+pub mod DamageExamples
