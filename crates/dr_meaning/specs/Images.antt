@@ -22,6 +22,14 @@ pub record AreKeptSome (images : List ℕ → Type 0) (n : ℕ) : Type 0 where
   pub kept : BeginWith images records
   pub count : length records ≡ n
 
+-- no more than n records are kept
+abbrev pub AreKeptAtMost : (List ℕ → Type 0) → ℕ → Type 0
+AreKeptAtMost images n = (records : List Record) → BeginWith images records → length records ≤ n
+
+-- each image has these records, and at most one more: that of an append that failed
+abbrev pub HaveOneMoreAtMost : (List ℕ → Type 0) → List Record → Type 0
+HaveOneMoreAtMost images records = (file : List ℕ) → images file → (last : List Record) × (length last ≤ 1) × HasRecords (records ++ last) file
+
 -- an image has this record
 pub record SomeHas (images : List ℕ → Type 0) (item : Record) : Type 0 where
   pub file : List ℕ

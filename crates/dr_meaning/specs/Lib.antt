@@ -1,5 +1,6 @@
 pub mod Types
 pub mod Codes
+pub mod Foreign
 pub mod Opening
 pub mod StartUp
 pub mod Testing

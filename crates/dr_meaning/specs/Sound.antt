@@ -5,7 +5,7 @@ use Rattle.dr_groups.specs.Groups.{IsPairOf, IsMachineOf}
 use Rattle.dr_groups.specs.Consistency.{SameConsistency}
 use Rattle.dr_outside.specs.Pairs.{frame_of}
 use Rattle.dr_outside.specs.Commands.{code_of}
-use Rattle.dr_meaning.specs.Types.{Estate, Kept, Record}
+use Rattle.dr_meaning.specs.Types.{Kept, Record}
 use Rattle.dr_meaning.specs.Worlds.{World}
 use Rattle.dr_meaning.specs.Visits.{all}
 use Rattle.dr_meaning.specs.Runs.{Setting, Run}

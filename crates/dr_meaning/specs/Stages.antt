@@ -1,6 +1,6 @@
 -- The stages of each operation, in order.
 use Rattle.std.specs.Prelude.{ℕ, ◌+◌, ◌==◌, Bool, true, false, List, [], ◌∷◌, ◌++◌, map, reverse, if◌then◌else◌}
-use Rattle.std.specs.List.{list_any, flat_map}
+use Rattle.std.specs.List.{flat_map}
 use Rattle.dr_meaning.specs.Types.{Op, Callout, Step, Plan, Wave, StageKind, Stage}
 use Rattle.dr_plan.specs.Waves.{priorities, waves_at, waves_of}
 

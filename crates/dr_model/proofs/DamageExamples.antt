@@ -1,5 +1,5 @@
 -- Files that are no lawful journal, by hand.
-use Rattle.std.specs.Prelude.{◌≡◌, ℕ, suc, ◌+◌, List, [], ◌∷◌, ◌++◌, length}
+use Rattle.std.specs.Prelude.{◌≡◌, ℕ, suc, List, [], ◌∷◌, ◌++◌, length}
 use Rattle.std.proofs.Common.{refl, sym, ap, ◌∙◌, subst, inl, inr, arith}
 use Rattle.std.proofs.lemmas.List.{length-append}
 use Rattle.dr_records.specs.Spelling.{IsRecord, spelling}
@@ -7,8 +7,7 @@ use Rattle.dr_records.proofs.Whole.{one_record}
 use Rattle.dr_journal.specs.Reading.{journal_of}
 use Rattle.dr_journal.specs.Reading.Reading.{Whole, DamagedAt}
 use Rattle.dr_journal.proofs.Laws.{whole_same}
-use Rattle.dr_outside.specs.BySide.{at}
-use Rattle.dr_meaning.specs.Types.{Estate, Record}
+use Rattle.dr_meaning.specs.Types.{Record}
 use Rattle.dr_meaning.specs.Runs.{Setting}
 use Rattle.dr_meaning.specs.Journals.{DeclaresSetting, AreSpelled, AreLawful, MayFollow, IsUnlawfulAt, IsDamagedAt}
 use Rattle.dr_model.proofs.FileLaws.{declare_stands}

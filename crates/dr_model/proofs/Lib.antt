@@ -82,8 +82,13 @@ pub mod SinceCalls
 pub mod SinceKept
 pub mod StartOnce
 pub mod LinesAreOne
+pub mod KeptRecords
+pub mod MarkLaws
 pub mod DamageLaws
+pub mod ForeignLaws
 pub mod ExampleEstate
 pub mod ChangeExamples
 pub mod LineExamples
 pub mod DamageExamples
+pub mod MarkExamples
+pub mod ForeignExamples

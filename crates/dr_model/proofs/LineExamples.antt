@@ -6,10 +6,10 @@ use Rattle.std.proofs.lemmas.List.{length-append}
 use Rattle.dr_groups.specs.Groups.{IsPairOf}
 use Rattle.dr_outside.specs.BySide.{at}
 use Rattle.dr_outside.proofs.Drifts.{Drift-refl}
-use Rattle.dr_meaning.specs.Types.{Side, Op, Estate, StartRow, Record}
+use Rattle.dr_meaning.specs.Types.{Side, Op, StartRow, Record}
 use Rattle.dr_meaning.specs.Worlds.{World}
 use Rattle.dr_meaning.specs.Sound.{IsSound}
-use Rattle.dr_meaning.specs.Runs.{Setting, Run, new, protected_side}
+use Rattle.dr_meaning.specs.Runs.{Setting, Run, protected_side}
 use Rattle.dr_meaning.specs.Fits.{pair_row}
 use Rattle.dr_meaning.specs.Journals.{DeclaresSetting, HasRecords, Stands}
 use Rattle.dr_meaning.specs.Images.{Keeps, AreKept, SomeHas}

@@ -39,14 +39,14 @@ at_place (x ∷ records) it (zero, below, e) = ([], records, ap (λ y. y ∷ rec
 at_place (x ∷ records) it (suc k, below, e) = let (before, behind, is) = at_place records it (k, omega arith, e) in (x ∷ before, behind, ap (λ l. x ∷ l) is)
 
 -- a Start that may come after these records
-record MayStand (before : List Record) (row : StartRow) : Type 0 where
+pub record MayStand (before : List Record) (row : StartRow) : Type 0 where
   setting : Setting
   runs : List Run
   stand : Stands setting before runs
   may : MayCome setting runs (Record.Start row)
 
 -- so may one of a sound file, after those before it
-stood : (world : World) (file : List ℕ) (records : List Record) → HasRecords records file → IsSound world file → (before behind : List Record) (row : StartRow) → records ≡ before ++ Record.Start row ∷ behind → MayStand before row
+pub stood : (world : World) (file : List ℕ) (records : List Record) → HasRecords records file → IsSound world file → (before behind : List Record) (row : StartRow) → records ≡ before ++ Record.Start row ∷ behind → MayStand before row
 stood world file records has sound before behind row are = go sound
   where
     not_empty : (before : List Record) → [] ≡ before ++ Record.Start row ∷ behind → ⊥
@@ -63,7 +63,7 @@ stood world file records has sound before behind row are = go sound
         let stands : Stands s.setting (before ++ Record.Start row ∷ behind) s.runs = subst (λ l. Stands s.setting l s.runs) (one_records file s.tells.records records s.tells.has has ∙ are) s.tells.stand in
         by_before s.setting s.runs stands (before_of s.setting before (Record.Start row ∷ behind) s.runs stands)
 
-may_after : (before : List Record) (row : StartRow) → MayStand before row → (setting : Setting) (runs : List Run) → Stands setting before runs → MayCome setting runs (Record.Start row)
+pub may_after : (before : List Record) (row : StartRow) → MayStand before row → (setting : Setting) (runs : List Run) → Stands setting before runs → MayCome setting runs (Record.Start row)
 may_after before row m setting runs stand =
     let (settings, lists) = one_stand m.setting setting before m.runs runs m.stand stand in
     subst (λ l. MayCome setting l (Record.Start row)) lists (subst (λ x. MayCome x m.runs (Record.Start row)) settings m.may)

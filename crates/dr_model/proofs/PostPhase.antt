@@ -1,5 +1,5 @@
 -- What posts a group's state allows, and what an unfinished run may have made of them.
-use Rattle.std.specs.Prelude.{◌≡◌, ℕ, ◌⊎◌, Bool, true, false, not, ◌&&◌, List, [], ◌∷◌, IsTrue, IsSomeAnd, Some, None, find}
+use Rattle.std.specs.Prelude.{◌≡◌, ℕ, ◌⊎◌, Bool, true, false, not, ◌&&◌, List, [], ◌∷◌, IsTrue, IsSomeAnd, find}
 use Rattle.std.specs.Bool.{MatchBool}
 use Rattle.std.proofs.Common.{refl, sym, ap, ◌∙◌, subst, inl, inr}
 use Rattle.dr_meaning.specs.Types.{Side, Op, Placed, Post, Estate, Phase, GroupState}

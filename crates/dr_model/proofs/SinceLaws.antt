@@ -36,7 +36,7 @@ pub none_listed : (added more : List Record) (item : Record) → added ≡ [] �
 none_listed added more item none c = absurd (let (k, below, e) = subst (λ l. Contains l item) none c in omega arith)
 
 -- a sound file with these records tells the runs that stand in them
-sound_of : (setting : Setting) (records : List Record) (runs : List Run) (world : World) (file : List ℕ) → HasRecords records file → IsSound world file → Stands setting records runs → IsSoundBy setting runs world
+pub sound_of : (setting : Setting) (records : List Record) (runs : List Run) (world : World) (file : List ℕ) → HasRecords records file → IsSound world file → Stands setting records runs → IsSoundBy setting runs world
 sound_of setting records runs world file has sound s = sound_by_told setting runs world file (record { records = records; has = has; stand = s }) sound
 
 at_most_one : (last : List Record) → length last ≤ 1 → (last ≡ []) ⊎ ((item : Record) × (last ≡ item ∷ []))

@@ -1,5 +1,5 @@
 -- Kept codes by a command that runs once.
-use Rattle.std.specs.Prelude.{◌≡◌, ℕ, List, Option}
+use Rattle.std.specs.Prelude.{ℕ, List, Option}
 use Rattle.dr_outside.specs.Commands.{HasTokensOnce, RunsOnce}
 use Rattle.dr_outside.proofs.TokenLaws.{kept_behind, once_behind}
 use Rattle.dr_meaning.specs.Types.{Side, Kept}

@@ -1,6 +1,6 @@
 //! What changes from a line's entry to here, and that lines in a row are one.
 
-ghost use Rattle.std.specs.Prelude.{◌≡◌, ℕ, true, List, [], ◌∷◌, ◌++◌, Some};
+ghost use Rattle.std.specs.Prelude.{◌≡◌, ℕ, true, List, [], ◌∷◌, ◌++◌, Contains, Some};
 ghost use Rattle.std.specs.List.{list_any};
 ghost use Rattle.dr_disk.specs.Disk.{Follows};
 ghost use Rattle.dr_journal.specs.Kept.{SameRecords, Appends, AppendsSome};
@@ -14,9 +14,9 @@ ghost use Rattle.dr_meaning.specs.Lawful.{MayCome};
 ghost use Rattle.dr_meaning.specs.Journals.{DeclaresSetting, IsSpelled, HasRecords, Stands};
 ghost use Rattle.dr_meaning.specs.Sound.{IsSoundBy, AreSound};
 ghost use Rattle.dr_meaning.specs.Calls.{call_of, CallsPairs, CallsMachines, OnlyKeepsCodes};
-ghost use Rattle.dr_meaning.specs.Images.{BeginWith, Keeps, AreKept};
-ghost use Rattle.dr_meaning.specs.Changes.{is_of_run, IsMachineCommand, IsStepCommand, GrowsBy, ChangesWorld, OnlyDrifts};
-ghost use Rattle.dr_meaning.specs.Since.{GivesWrites, Since};
+ghost use Rattle.dr_meaning.specs.Images.{BeginWith, Keeps, AreKept, HaveOneMoreAtMost, SomeHas};
+ghost use Rattle.dr_meaning.specs.Changes.{is_of_run, IsMachineCommand, IsStepCommand, GrowsBy, ChangesWorld, OnlyDrifts, ChangedBy};
+ghost use Rattle.dr_meaning.specs.Since.{ReadTruly, GivesWrites, Since};
 
 use dr_disk::Disk;
 
@@ -118,4 +118,19 @@ pub fn kept_records_tell_change<D: Disk>(entry: &D, exit: &D)
         BeginWith (D.images entry.now) was → AreKept (D.images exit.now) (was ++ more) → Stands setting (was ++ more) runs → ChangesWorld setting runs more old new }
     ensures empty { (old new : World) (added : List RecordValue) (file : List ℕ) → Since (D.images entry.now) old added (D.images exit.now) new →
         D.images exit.now file → AreKept (D.images exit.now) [] → OnlyDrifts old new }
+{}
+
+/// From a sound entry whose images differ by one record at most, as each exit leaves them, the longest list
+/// that is kept tells all: the outside changed by the records that are new in it, no writes were lost, and a
+/// Start that is new and that no image had at entry read truly.
+pub fn longest_kept_list_tells_change<D: Disk>(entry: &D, exit: &D)
+    ensures one_more { (old new : World) (added was records : List RecordValue) → AreSound (D.images entry.now) old → HaveOneMoreAtMost (D.images entry.now) was →
+        Since (D.images entry.now) old added (D.images exit.now) new → AreKept (D.images exit.now) records → HaveOneMoreAtMost (D.images exit.now) records }
+    ensures changed { (old new : World) (added was more : List RecordValue) (file : List ℕ) → AreSound (D.images entry.now) old → HaveOneMoreAtMost (D.images entry.now) was →
+        Since (D.images entry.now) old added (D.images exit.now) new → D.images exit.now file →
+        AreKept (D.images exit.now) (was ++ more) → ChangedBy (was ++ more) more old new }
+    ensures starts { (old new : World) (added was more : List RecordValue) (file : List ℕ) → AreSound (D.images entry.now) old → HaveOneMoreAtMost (D.images entry.now) was →
+        Since (D.images entry.now) old added (D.images exit.now) new → D.images exit.now file → HasRecords (was ++ more) file →
+        (row : StartRow) → Contains more (RecordValue.Start row) → ¬ SomeHas (D.images entry.now) (RecordValue.Start row) →
+        (front : List RecordValue) × (later : List RecordValue) × (more ≡ front ++ RecordValue.Start row ∷ later) × ReadTruly (was ++ front) front row old }
 {}
