@@ -1,0 +1,5 @@
+pub mod Commands
+pub mod Steps
+pub mod Parts
+pub mod Waves
+pub mod Wants

@@ -1,0 +1,34 @@
+-- At which side a step works, and which run a start is of.
+use Rattle.std.specs.Prelude.{ℕ, ◌≡◌, Bool, true, false, List, Contains}
+use Rattle.dr_base.specs.declared.side.Side.{Side}
+use Rattle.dr_base.specs.Sides.{same_side}
+use Rattle.dr_meaning.specs.Runs.{Run, new, root}
+use Rattle.dr_meaning.specs.Lawful.{machine_in_plan}
+use Rattle.dr_meaning.specs.Changes.{all_commands_of, HasBegun, StartsMachine}
+use Rattle.dr_wave.specs.declared.slot.StartWant.{StartWant}
+use Rattle.dr_wave.specs.declared.slot.Want.{Want}
+
+-- whether a step works the machine at this side
+abbrev pub works_at : Want → Side → Bool
+works_at Want.Nothing side = false
+works_at Want.Look side = false
+works_at (Want.Start want) side = same_side side want.side
+works_at (Want.Stop s) side = same_side side s
+works_at (Want.Clear s) side = same_side side s
+
+-- a start is wanted by one of these runs, which has begun to start the machine, with the machine's commands in its plan
+pub record IsStartOf (runs : List Run) (machine : ℕ) (want : StartWant) : Type 0 where
+  pub run : Run
+  pub listed : Contains runs run
+  pub commands : want.commands ≡ all_commands_of (machine_in_plan run.plan machine)
+  pub rooted : want.root ≡ root run
+  pub side : want.side ≡ new run
+  pub begun : HasBegun run (StartsMachine machine)
+
+-- what is wanted of a machine is so, where it is a start
+abbrev pub IsWantOf : List Run → ℕ → Want → Type 0
+IsWantOf runs machine Want.Nothing = Unit {0}
+IsWantOf runs machine Want.Look = Unit {0}
+IsWantOf runs machine (Want.Start want) = IsStartOf runs machine want
+IsWantOf runs machine (Want.Stop side) = Unit {0}
+IsWantOf runs machine (Want.Clear side) = Unit {0}

@@ -1,0 +1,73 @@
+ghost use Rattle.std.specs.Prelude.{◌≡◌, ◌≢◌, ◌<◌, ◌≤◌, ℕ, true, false, length, slice_index, slice_get, vec_len};
+ghost use Rattle.std.specs.List.Sorted.{IsStrictlyIncreasing};
+ghost use Rattle.dr_base.specs.Lists.{has};
+ghost use Rattle.dr_wave.specs.declared.slot.Want.TheVariants.{Look};
+ghost use Rattle.dr_wave.specs.Waves.{want_at, InPlace, StepsAt};
+
+use crate::steps::take_step;
+use crate::{Slot, Want};
+use dr_outside::Port;
+use std::alloc::Global;
+use std::thread::Threads;
+
+// The machine in the slot at a place takes this step.
+fn step_at<P: Port>(slots: &mut [Slot<P>], i: usize, want: &Want)
+    requires { i < length slots.old }
+    ensures steps { StepsAt P.tells P.state want.now slots.old slots.new i }
+    ensures others { (j : ℕ) → j ≢ i → slice_get slots.new j ≡ slice_get slots.old j }
+    ensures in_place { InPlace slots.old slots.new }
+{
+    slots[i].found = take_step(&mut slots[i].port, want);
+}
+
+/// Asks of each machine how it stands at both sides, by at most this many workers at a time. What it
+/// finds are the posts at A and B, none where the call failed.
+pub fn look<P: Port + Send>(rt: &(impl Threads + Sync), slots: &mut [Slot<P>], workers: u32)
+    requires some { 1 ≤ workers }
+    requires few { workers ≤ 64 }
+    ensures steps { (i : ℕ) → i < length slots.old → StepsAt P.tells P.state Look slots.old slots.new i }
+    ensures in_place { InPlace slots.old slots.new }
+{
+    for i in 0..slots.len() {
+        step_at(slots, i, &Want::Look);
+    }
+}
+
+/// Each slot that is picked takes the step that is wanted of it, by at most this many workers at a
+/// time, in no promised order; the others aren't touched. The picks are places of slots, strictly
+/// ascending. A failed call ends its own slot's step alone.
+pub fn run_wave<P: Port + Send>(
+    rt: &(impl Threads + Sync),
+    alloc: Global,
+    slots: &mut Vec<Slot<P>>,
+    picks: &[u32],
+    workers: u32,
+)
+    requires ascending { IsStrictlyIncreasing picks.now }
+    requires within { (k : ℕ) → k < length picks.now → slice_index picks.now k < vec_len slots.old }
+    requires some { 1 ≤ workers }
+    requires few { workers ≤ 64 }
+    ensures steps { (i : ℕ) → has picks.now i ≡ true
+        → StepsAt P.tells P.state (want_at slots.old.items i) slots.old.items slots.new.items i }
+    ensures others { (i : ℕ) → has picks.now i ≡ false
+        → slice_get slots.new.items i ≡ slice_get slots.old.items i }
+    ensures in_place { InPlace slots.old.items slots.new.items }
+{
+    run_picks(slots.as_mut_slice(), picks);
+}
+
+// The slots that are picked take their steps, one after another.
+fn run_picks<P: Port>(slots: &mut [Slot<P>], picks: &[u32])
+    requires ascending { IsStrictlyIncreasing picks.now }
+    requires within { (k : ℕ) → k < length picks.now → slice_index picks.now k < length slots.old }
+    ensures steps { (i : ℕ) → has picks.now i ≡ true
+        → StepsAt P.tells P.state (want_at slots.old i) slots.old slots.new i }
+    ensures others { (i : ℕ) → has picks.now i ≡ false → slice_get slots.new i ≡ slice_get slots.old i }
+    ensures in_place { InPlace slots.old slots.new }
+{
+    for n in 0..picks.len() {
+        let i = picks[n] as usize;
+        let want = slots[i].want;
+        step_at(slots, i, &want);
+    }
+}
