@@ -1,3 +1,4 @@
 pub mod KeptLaws
 pub mod StepLaws
 pub mod StartLaws
+pub mod SlotLaws

@@ -2,6 +2,7 @@ ghost use Rattle.std.specs.Prelude.{◌≡◌, ◌≢◌, ◌<◌, ◌≤◌, �
 ghost use Rattle.std.specs.List.Sorted.{IsStrictlyIncreasing};
 ghost use Rattle.dr_base.specs.Lists.{has};
 ghost use Rattle.dr_wave.specs.declared.slot.Want.TheVariants.{Look};
+ghost use Rattle.dr_wave.specs.Steps.{Step};
 ghost use Rattle.dr_wave.specs.Waves.{want_at, InPlace, StepsAt};
 
 use crate::steps::take_step;
@@ -10,6 +11,15 @@ use dr_outside::Port;
 use std::alloc::Global;
 use std::thread::Threads;
 
+// The machine in this slot takes this step.
+fn step_slot<P: Port>(slot: &mut Slot<P>, want: &Want)
+    ensures step { Step P.tells want.now (P.state slot.old.port) (P.state slot.new.port) slot.new.found }
+    ensures machine { slot.new.machine ≡ slot.old.machine }
+    ensures want { slot.new.want ≡ slot.old.want }
+{
+    slot.found = take_step(&mut slot.port, want);
+}
+
 // The machine in the slot at a place takes this step.
 fn step_at<P: Port>(slots: &mut [Slot<P>], i: usize, want: &Want)
     requires { i < length slots.old }
@@ -17,7 +27,7 @@ fn step_at<P: Port>(slots: &mut [Slot<P>], i: usize, want: &Want)
     ensures others { (j : ℕ) → j ≢ i → slice_get slots.new j ≡ slice_get slots.old j }
     ensures in_place { InPlace slots.old slots.new }
 {
-    slots[i].found = take_step(&mut slots[i].port, want);
+    step_slot(&mut slots[i], want);
 }
 
 /// Asks of each machine how it stands at both sides, by at most this many workers at a time. What it

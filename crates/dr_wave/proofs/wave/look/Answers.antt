@@ -1,22 +1,18 @@
-use Rattle.std.proofs.Common.{rules, ◌≡◌, ◌≢◌, ◌<◌, ◌≤◌, ℕ, true, false, length, slice_index, slice_get, vec_len, ◌+◌, ◌-◌, ◌*◌, ◌/◌, ◌%◌, Bool, nat_eq, nat_lt, List, [], ◌∷◌, ◌++◌, slice_index_or, slice_set, bit_and, bit_or, Fits, w8, w32, w64, Bor, MutBor}
-use Rattle.std.specs.List.Sorted.{IsStrictlyIncreasing}
-use Rattle.dr_base.specs.Lists.{has}
-use Rattle.dr_wave.specs.declared.slot.Want.TheVariants.{Look}
-use Rattle.dr_wave.specs.Waves.{want_at, InPlace, StepsAt}
+use Rattle.std.proofs.Common.{ℕ, ◌+◌, arith}
+use Rattle.std.specs.Prelude.{nat_lt}
+use Rattle.std.proofs.lemmas.Bool.{le-ltb, lt-ltb}
+use Rattle.dr_wave.specs.declared.slot.Want.{Want}
+use Rattle.dr_wave.proofs.SlotLaws.{none_stepped, step_more, place_not_yet, place_now, place_others}
 use Rattle.dr_wave.proofs.wave.look.Goals as goal
 
--- src/wave.rt:31:5
 pub loop-i-init : goal.loop-i-init
-loop-i-init g c = ?
+loop-i-init g c = none_stepped g.P.Port.tells g.P.Port.state (λ i. nat_lt i 0) (λ _. Want.Look) c.args.slots.now (λ i. le-ltb i 0 (omega arith))
 
--- src/wave.rt:31:5
 pub loop-i-preserved : goal.loop-i-preserved
-loop-i-preserved g c = ?
+loop-i-preserved g c =
+    let n : ℕ = c.loop-i.i in
+    step_more g.P.Port.tells g.P.Port.state (λ i. nat_lt i n) (λ i. nat_lt i (n + 1)) (λ _. Want.Look) _ _ _ n (place_not_yet n) (place_now n) (place_others n) c.loop-i.invariant
+    c.step_at.ensures.steps c.step_at.ensures.others c.step_at.ensures.in_place
 
--- src/wave.rt:25:1
 pub returns-clause-steps : goal.returns-clause-steps
-returns-clause-steps g c = ?
-
--- src/wave.rt:25:1
-pub returns-clause-in_place : goal.returns-clause-in_place
-returns-clause-in_place g c = ?
+returns-clause-steps g c = λ i within. c.loop-i.invariant.steps i (lt-ltb i c.loop-i.i (omega (arith, within)))

@@ -1,9 +1,7 @@
-use Rattle.std.proofs.Common.{◌≡◌, ◌≢◌, ◌<◌, ◌≤◌, ℕ, true, false, length, slice_index, slice_get, vec_len, ◌+◌, ◌-◌, ◌*◌}
-use Rattle.std.specs.List.Sorted.{IsStrictlyIncreasing}
-use Rattle.dr_base.specs.Lists.{has}
-use Rattle.dr_wave.specs.declared.slot.Want.TheVariants.{Look}
-use Rattle.dr_wave.specs.Waves.{want_at, InPlace, StepsAt}
+use Rattle.std.specs.Prelude.{nat_lt}
+use Rattle.dr_wave.specs.declared.slot.Want.{Want}
+use Rattle.dr_wave.proofs.SlotLaws.{SteppedBy}
 use Rattle.dr_wave.proofs.wave.look.Given as goal
 
 abbrev pub invariant-loop-i : goal.invariant-loop-i
-invariant-loop-i g l = ?
+invariant-loop-i g l = SteppedBy g.P.Port.tells g.P.Port.state (λ i. nat_lt i l.i) (λ _. Want.Look) l.initial.slots l.slots

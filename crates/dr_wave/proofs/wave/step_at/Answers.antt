@@ -1,18 +1,11 @@
-use Rattle.std.proofs.Common.{rules, ◌≡◌, ◌≢◌, ◌<◌, ◌≤◌, ℕ, true, false, length, slice_index, slice_get, vec_len, ◌+◌, ◌-◌, ◌*◌, ◌/◌, ◌%◌, Bool, nat_eq, nat_lt, List, [], ◌∷◌, ◌++◌, slice_index_or, slice_set, bit_and, bit_or, Fits, w8, w32, w64, Bor, MutBor}
-use Rattle.std.specs.List.Sorted.{IsStrictlyIncreasing}
-use Rattle.dr_base.specs.Lists.{has}
-use Rattle.dr_wave.specs.declared.slot.Want.TheVariants.{Look}
-use Rattle.dr_wave.specs.Waves.{want_at, InPlace, StepsAt}
+use Rattle.dr_wave.proofs.SlotLaws.{stepped, others, in_place}
 use Rattle.dr_wave.proofs.wave.step_at.Goals as goal
 
--- src/wave.rt:14:1
 pub returns-clause-steps : goal.returns-clause-steps
-returns-clause-steps g c = ?
+returns-clause-steps g c = stepped c.args.slots.now c.args.i c.index-slots-i.result c.step_slot.new.slot c.requires g.P.Port.tells g.P.Port.state c.args.want.now c.step_slot.ensures.step
 
--- src/wave.rt:14:1
 pub returns-clause-others : goal.returns-clause-others
-returns-clause-others g c = ?
+returns-clause-others g c = others c.args.slots.now c.args.i c.index-slots-i.result c.step_slot.new.slot c.requires
 
--- src/wave.rt:14:1
 pub returns-clause-in_place : goal.returns-clause-in_place
-returns-clause-in_place g c = ?
+returns-clause-in_place g c = in_place c.args.slots.now c.args.i c.index-slots-i.result c.step_slot.new.slot c.requires c.step_slot.ensures.machine c.step_slot.ensures.want
