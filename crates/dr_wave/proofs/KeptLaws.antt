@@ -1,14 +1,14 @@
 -- Kept codes that commands add, part by part.
-use Rattle.std.specs.Prelude.{is_some, filter, not, cond, if◌then◌else◌, Option, Some, None, IsTrue}
+use Rattle.std.specs.Prelude.{is_some, not, cond, if◌then◌else◌, Option, Some, None, IsTrue}
 use Rattle.std.specs.List.{AllByRecursion}
-use Rattle.std.proofs.Common.{◌≡◌, ℕ, suc, zero, ◌+◌, ◌*◌, ◌^◌, ◌<◌, ◌≤◌, ◌==◌, Bool, true, false, List, [], ◌∷◌, ◌++◌, length, refl, sym, ◌∙◌, ap, subst, arith, append_assoc, length-append, add-zero}
+use Rattle.std.proofs.Common.{◌≡◌, ℕ, suc, ◌+◌, ◌<◌, ◌≤◌, ◌==◌, Bool, true, false, List, [], ◌∷◌, ◌++◌, length, refl, sym, ◌∙◌, ap, subst, arith, append_assoc, length-append, add-zero}
 use Rattle.std.proofs.lemmas.List.{append-nil}
 use Rattle.std.proofs.lemmas.List.Elements.{filter-append}
 use Rattle.std.proofs.lemmas.Bool.Decides.{nat_tests}
 use Rattle.dr_base.specs.declared.side.Side.{Side}
 use Rattle.dr_outside.specs.declared.machine.Kept.{Kept}
 use Rattle.dr_outside.specs.Commands.{code_of}
-use Rattle.dr_meaning.specs.Lawful.{token_of, tokens_from}
+use Rattle.dr_meaning.specs.Lawful.{token_of}
 use Rattle.dr_meaning.specs.InOrder.{has_code}
 use Rattle.dr_meaning.specs.Calls.{KeepsCodes}
 use Rattle.dr_wave.specs.Commands.{Command, commands_from, unkept, kept_of, RanFirst, RanAll, codes_from, AreKept, AreCodes}

@@ -2,3 +2,4 @@ pub mod KeptLaws
 pub mod StepLaws
 pub mod StartLaws
 pub mod SlotLaws
+pub mod StepFacts

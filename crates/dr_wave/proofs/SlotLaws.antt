@@ -1,6 +1,6 @@
 -- Slots by their places, while one after another takes its step.
-use Rattle.std.specs.Prelude.{Option, option_map, unwrap_or, slice_get}
-use Rattle.std.proofs.Common.{◌≡◌, ◌≢◌, ℕ, suc, zero, ◌+◌, ◌<◌, ◌≤◌, ◌∙◌, inl, inr, Bool, true, false, ◌||◌, ◌==◌, List, [], ◌∷◌, length, take, map, get_or, set, refl, sym, ap, subst, arith, get_or-set_same}
+use Rattle.std.specs.Prelude.{option_map, unwrap_or, slice_get}
+use Rattle.std.proofs.Common.{◌≡◌, ◌≢◌, ℕ, suc, zero, ◌+◌, ◌<◌, ◌∙◌, inl, inr, Bool, true, false, ◌||◌, ◌==◌, List, [], ◌∷◌, length, take, map, get_or, set, refl, sym, ap, arith, get_or-set_same}
 use Rattle.std.specs.Prelude.{nat_lt}
 use Rattle.std.specs.List.Sorted.{IsStrictlyIncreasing}
 use Rattle.std.proofs.lemmas.Bool.{cases_eq, eq-eqb, ne_eqb, le-ltb, lt-ltb}
@@ -14,7 +14,7 @@ use Rattle.dr_wave.specs.declared.slot.Slot.{Slot}
 use Rattle.dr_wave.specs.declared.slot.Want.{Want}
 use Rattle.dr_wave.specs.declared.slot.Found.{Found}
 use Rattle.dr_wave.specs.Steps.{Step}
-use Rattle.dr_wave.specs.Waves.{slot_state, want_at, found_at, InPlace, StepsAt}
+use Rattle.dr_wave.specs.Waves.{want_at, found_at, InPlace, StepsAt}
 
 -- One slot changes -----------------------------------------------------------------------------------------
 
@@ -47,7 +47,8 @@ want_stays initial slots stands i d l = sym (get_or-map (λ slot. slot.want) slo
 
 -- One after another ------------------------------------------------------------------------------------------
 
-by_place : {P X : Type 0} (f : Slot P → X) (d : X) (was now : List (Slot P)) (i : ℕ) → slice_get now i ≡ slice_get was i → get_or (map f now) i d ≡ get_or (map f was) i d
+-- slots that are alike at a place are so in each field
+pub by_place : {P X : Type 0} (f : Slot P → X) (d : X) (was now : List (Slot P)) (i : ℕ) → slice_get now i ≡ slice_get was i → get_or (map f now) i d ≡ get_or (map f was) i d
 by_place f d was now i e =
     sym (unwrap_or-slice_get (map f now) i d) ∙ ap (λ o. unwrap_or o d) (slice_get-map f now i ∙ ap (option_map f) e ∙ sym (slice_get-map f was i)) ∙ unwrap_or-slice_get (map f was) i d
 

@@ -1,9 +1,7 @@
 -- A start's step, exit by exit. Each speaks of the machine when it was found (s0), registered (s1), with its commands before power-on (s2), turned on (s3) and with those after it (s4).
-use Rattle.std.specs.Prelude.{Option, Some, None}
-use Rattle.std.proofs.Common.{◌≡◌, ℕ, suc, zero, ◌+◌, ◌∙◌, ◌⊎◌, inl, inr, Bool, true, false, List, [], ◌∷◌, ◌++◌, length, take, get_or, refl, sym, ap, subst, arith}
-use Rattle.dr_base.specs.declared.side.Side.{Side}
+use Rattle.std.specs.Prelude.{Option}
+use Rattle.std.proofs.Common.{◌≡◌, ℕ, ◌+◌, ◌∙◌, ◌⊎◌, inl, inr, true, false, List, [], ◌∷◌, ◌++◌, length, take, get_or, refl, sym, ap, subst, arith}
 use Rattle.dr_base.specs.Sides.{other}
-use Rattle.dr_outside.specs.declared.machine.Kept.{Kept}
 use Rattle.dr_outside.specs.declared.machine.Placed.{Placed}
 use Rattle.dr_outside.specs.declared.machine.Post.{Post}
 use Rattle.dr_outside.specs.declared.machine.Post.TheVariants.{Placeholder, Off, On, Ready}

@@ -1,12 +1,11 @@
 -- Steps, part by part.
 use Rattle.std.specs.Prelude.{Option, Some, None}
-use Rattle.std.proofs.Common.{◌≡◌, ℕ, ◌+◌, ◌∙◌, ◌⊎◌, inl, inr, Bool, true, false, List, [], ◌∷◌, ◌++◌, length, refl, sym, ap, subst, arith}
+use Rattle.std.proofs.Common.{◌≡◌, ℕ, ◌+◌, ◌∙◌, ◌⊎◌, inl, inr, true, false, List, [], ◌∷◌, refl, sym}
 use Rattle.std.proofs.lemmas.List.{append-nil}
 use Rattle.dr_base.specs.declared.side.Side.{Side}
-use Rattle.dr_outside.specs.declared.machine.Kept.{Kept}
 use Rattle.dr_outside.specs.Commands.{code_of}
 use Rattle.dr_outside.specs.Machines.{PortState, SameMachine, CommandRuns}
-use Rattle.dr_wave.specs.Commands.{Command, commands_from, unkept, kept_of, RanFirst, RanAll, CommandsRun, AreCodes}
+use Rattle.dr_wave.specs.Commands.{Command, commands_from, CommandsRun, AreCodes}
 use Rattle.dr_wave.proofs.KeptLaws.{unkept_none, unkept_some, none_ran, last_found, first_from, all_from, front_from, codes-append, kept_later, keeps_codes, all_is_first}
 
 -- One command ------------------------------------------------------------------------------------------

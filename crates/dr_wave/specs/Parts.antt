@@ -1,5 +1,5 @@
 -- The parts of a step, one call each, and what each leaves.
-use Rattle.std.specs.Prelude.{ℕ, ◌≡◌, ◌⊎◌, false, List, [], ◌∷◌, Option, Result, Ok, Err}
+use Rattle.std.specs.Prelude.{ℕ, ◌≡◌, ◌⊎◌, false, [], ◌∷◌, Option, Result, Ok, Err}
 use Rattle.dr_base.specs.declared.side.Side.{Side}
 use Rattle.dr_base.specs.Sides.{other}
 use Rattle.dr_outside.specs.declared.machine.Placed.{Placed}

@@ -1,5 +1,5 @@
 -- What a machine's step leaves of it, and what it tells.
-use Rattle.std.specs.Prelude.{ℕ, ◌≡◌, ◌≤◌, ◌⊎◌, Bool, true, false, List, [], ◌∷◌, take, Option, None, IfSome, IfNone}
+use Rattle.std.specs.Prelude.{ℕ, ◌≡◌, ◌≤◌, ◌⊎◌, true, false, List, [], ◌∷◌, take, Option, None, IfSome, IfNone}
 use Rattle.dr_base.specs.declared.side.Side.{Side}
 use Rattle.dr_base.specs.declared.side.Side.TheVariants.{A, B}
 use Rattle.dr_base.specs.Sides.{other}

@@ -1,5 +1,5 @@
 -- At which side a step works, and which run a start is of.
-use Rattle.std.specs.Prelude.{ℕ, ◌≡◌, Bool, true, false, List, Contains}
+use Rattle.std.specs.Prelude.{ℕ, ◌≡◌, Bool, false, List, Contains}
 use Rattle.dr_base.specs.declared.side.Side.{Side}
 use Rattle.dr_base.specs.Sides.{same_side}
 use Rattle.dr_meaning.specs.Runs.{Run, new, root}

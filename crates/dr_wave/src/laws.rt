@@ -1,7 +1,7 @@
 //! What follows from a machine's step, as the laws on runs ask for it. Each stands as the contract of a
 //! function that does nothing.
 
-ghost use Rattle.std.specs.Prelude.{◌≡◌, ◌⊎◌, ℕ, true, false, IsTrue, List, Option, Some, None, IfSome, slice_get, take};
+ghost use Rattle.std.specs.Prelude.{◌≡◌, ◌⊎◌, ℕ, true, false, IsTrue, List, Option, Some, None, IfSome, length, slice_get, take};
 ghost use Rattle.std.specs.List.{AllByRecursion};
 ghost use Rattle.dr_base.specs.declared.side.Side.{Side};
 ghost use Rattle.dr_base.specs.declared.side.Side.TheVariants.{A as SideA, B as SideB};
@@ -23,6 +23,8 @@ ghost use Rattle.dr_wave.specs.declared.slot.StartWant.{StartWant as StartWanted
 ghost use Rattle.dr_wave.specs.declared.slot.Want.{Want as Wanted};
 ghost use Rattle.dr_wave.specs.declared.slot.Found.{Found as FoundValue};
 ghost use Rattle.dr_wave.specs.Steps.{placed_of, Step};
+ghost use Rattle.dr_wave.specs.declared.slot.Slot.{Slot as SlotValue};
+ghost use Rattle.dr_wave.specs.Waves.{slot_state, want_at, found_at, InPlace};
 ghost use Rattle.dr_wave.specs.Wants.{works_at, IsWantOf};
 
 use dr_outside::Port;
@@ -90,6 +92,12 @@ pub fn steps_end_for_their_cause<P: Port>()
         ¬ Rose (old.faults side) (new.faults side) → (codes : List (Option ℕ)) × (found ≡ FoundValue.Made codes) }
 {}
 
+/// A start may go on where an earlier one ended: the machine isn't registered, or stands as wanted.
+pub fn starts_go_on_where_one_ended<P: Port>()
+    ensures { P.tells → (want : StartWanted) (old new : PortState) (found : FoundValue) → Step P.tells (Wanted.Start want) old new found →
+        IsAsWanted (placed_of want) (at want.side old.post) → IsAsWanted (placed_of want) (at want.side new.post) }
+{}
+
 /// A look changes nothing, and finds the posts that are there. One is missing only where its side's
 /// count rose.
 pub fn looks_change_nothing<P: Port>()
@@ -101,4 +109,13 @@ pub fn looks_change_nothing<P: Port>()
     ensures missing_at_b { (old new : PortState) (a : Option Post) → Step P.tells Wanted.Look old new (FoundValue.Looked a None) →
         Rose (old.faults SideB) (new.faults SideB) }
     ensures looked { (old new : PortState) (found : FoundValue) → Step P.tells Wanted.Look old new found → (a b : Option Post) × (found ≡ FoundValue.Looked a b) }
+{}
+
+/// Slots that are alike at a place have there the same machine in the same state, the same want and the
+/// same finding; and slots that stand in their places are as many as before.
+pub fn slots_stand_by_place<P: Port>()
+    ensures state { (old new : List (SlotValue P)) (i : ℕ) → slice_get new i ≡ slice_get old i → slot_state P.state new i ≡ slot_state P.state old i }
+    ensures want { (old new : List (SlotValue P)) (i : ℕ) → slice_get new i ≡ slice_get old i → want_at new i ≡ want_at old i }
+    ensures found { (old new : List (SlotValue P)) (i : ℕ) → slice_get new i ≡ slice_get old i → found_at new i ≡ found_at old i }
+    ensures count { (old new : List (SlotValue P)) → InPlace old new → length new ≡ length old }
 {}

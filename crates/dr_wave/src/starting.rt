@@ -85,7 +85,14 @@ fn power_on<P: Port>(
         Ok(()) => {}
         Err(end) => return Err(end),
     }
-    match run_two(port, want.side, want.root, 0, &want.commands[0], &want.commands[1]) {
+    match run_two(
+        port,
+        want.side,
+        want.root,
+        0,
+        &want.commands[0],
+        &want.commands[1],
+    ) {
         Ok(codes) => match turn_on(port, want, post) {
             Ok(()) => Ok(codes),
             Err(end) => Err(end),
@@ -106,7 +113,14 @@ fn start_from<P: Port>(port: &mut P, want: &StartWant, post: &Post) -> Found
     match power_on(port, want, post) {
         Err(end) => end,
         Ok((first, second)) => {
-            match run_two(port, want.side, want.root, 2, &want.commands[2], &want.commands[3]) {
+            match run_two(
+                port,
+                want.side,
+                want.root,
+                2,
+                &want.commands[2],
+                &want.commands[3],
+            ) {
                 Err(end) => end,
                 Ok((third, fourth)) => Found::Made([first, second, third, fourth]),
             }

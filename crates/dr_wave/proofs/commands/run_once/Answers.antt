@@ -1,4 +1,4 @@
-use Rattle.dr_wave.proofs.StepLaws.{not_run, run_now, failed_once, code_is}
+use Rattle.dr_wave.proofs.StepLaws.{run_now, failed_once, code_is}
 use Rattle.dr_wave.proofs.commands.run_once.Goals as goal
 
 pub returns-in-Ok-clause-ran : goal.returns-in-Ok-clause-ran

@@ -1,41 +1,24 @@
-use Rattle.std.proofs.Common.{rules, ◌≡◌, ◌⊎◌, ℕ, true, false, IsTrue, List, Option, Some, None, IfSome, slice_get, take, ◌+◌, ◌-◌, ◌*◌, ◌<◌, ◌≤◌, length, ◌/◌, ◌%◌, Bool, nat_eq, nat_lt, [], ◌∷◌, ◌++◌, slice_index_or, slice_set, bit_and, bit_or, Fits, w8, w32, w64, Bor, MutBor}
-use Rattle.std.specs.List.{AllByRecursion}
-use Rattle.dr_base.specs.declared.side.Side.{Side}
-use Rattle.dr_base.specs.declared.side.Side.TheVariants.{A as SideA}
-use Rattle.dr_base.specs.declared.side.Side.TheVariants.{B as SideB}
-use Rattle.dr_base.specs.Causes.{Rose}
-use Rattle.dr_outside.specs.declared.machine.Placed.{Placed}
-use Rattle.dr_outside.specs.declared.machine.Post.{Post}
-use Rattle.dr_outside.specs.BySide.{at}
+use Rattle.std.specs.Prelude.{Some}
+use Rattle.std.proofs.Common.{◌≡◌, ◌+◌, sym, subst, arith}
 use Rattle.dr_outside.specs.Commands.{code_of}
-use Rattle.dr_outside.specs.Machines.{PortState, SameMachine}
-use Rattle.dr_meaning.specs.declared.stage.StageKind.{StageKind}
-use Rattle.dr_meaning.specs.StartUp.{is_started}
-use Rattle.dr_meaning.specs.Runs.{Run}
-use Rattle.dr_meaning.specs.Lawful.{token_of, tokens_from}
-use Rattle.dr_meaning.specs.Outcomes.{made_post, PostOutcome, IsAsWanted}
-use Rattle.dr_meaning.specs.InOrder.{has_code}
-use Rattle.dr_meaning.specs.Calls.{KeepsCodes}
-use Rattle.dr_meaning.specs.Changes.{IsMachineCommand, GrowsBy}
-use Rattle.dr_wave.specs.declared.slot.StartWant.{StartWant as StartWanted}
-use Rattle.dr_wave.specs.declared.slot.Want.{Want as Wanted}
-use Rattle.dr_wave.specs.declared.slot.Found.{Found as FoundValue}
-use Rattle.dr_wave.specs.Steps.{placed_of, Step}
-use Rattle.dr_wave.specs.Wants.{works_at, IsWantOf}
+use Rattle.dr_meaning.specs.Lawful.{token_of}
+use Rattle.dr_wave.proofs.StepFacts.{stopped_stays, code_at, no_code_at}
 use Rattle.dr_wave.proofs.laws.made_steps_back_done.Goals as goal
 
--- src/laws.rt:58:1
 pub returns-clause-stop : goal.returns-clause-stop
-returns-clause-stop g c = ?
+returns-clause-stop g c = λ tells side wanted old now codes step. stopped_stays _ _ (step.told tells wanted)
 
--- src/laws.rt:58:1
 pub returns-clause-clear : goal.returns-clause-clear
-returns-clause-clear g c = ?
+returns-clause-clear g c = λ tells side wanted old now codes step. sym (step.told tells wanted)
 
--- src/laws.rt:58:1
 pub returns-clause-codes : goal.returns-clause-codes
-returns-clause-codes g c = ?
+returns-clause-codes g c = λ tells want old now codes step index name h.
+    let made = (step.told tells).told in
+    let (code, told, is) = code_at now.kept want.root 0 want.commands made.are_kept index name h in
+    let e : 0 + index ≡ index = omega arith in
+    (code, rw made.told told, subst (λ k. code_of now.kept (token_of want.root k) ≡ Some code) e is)
 
--- src/laws.rt:58:1
 pub returns-clause-no_codes : goal.returns-clause-no_codes
-returns-clause-no_codes g c = ?
+returns-clause-no_codes g c = λ tells want old now codes step index h.
+    let made = (step.told tells).told in
+    rw made.told (no_code_at now.kept want.root 0 want.commands index h)
