@@ -3,3 +3,4 @@ pub mod StepLaws
 pub mod StartLaws
 pub mod SlotLaws
 pub mod StepFacts
+pub mod StageFacts

@@ -1,7 +1,7 @@
 //! What follows from a machine's step, as the laws on runs ask for it. Each stands as the contract of a
 //! function that does nothing.
 
-ghost use Rattle.std.specs.Prelude.{◌≡◌, ◌⊎◌, ℕ, true, false, IsTrue, List, Option, Some, None, IfSome, length, slice_get, take};
+ghost use Rattle.std.specs.Prelude.{◌≡◌, ◌⊎◌, ℕ, true, false, IsTrue, List, Option, Some, None, IfSome, Contains, length, slice_get, take};
 ghost use Rattle.std.specs.List.{AllByRecursion};
 ghost use Rattle.dr_base.specs.declared.side.Side.{Side};
 ghost use Rattle.dr_base.specs.declared.side.Side.TheVariants.{A as SideA, B as SideB};
@@ -13,19 +13,26 @@ ghost use Rattle.dr_outside.specs.Commands.{code_of};
 ghost use Rattle.dr_outside.specs.Machines.{PortState, SameMachine};
 ghost use Rattle.dr_meaning.specs.declared.stage.StageKind.{StageKind};
 ghost use Rattle.dr_meaning.specs.StartUp.{is_started};
-ghost use Rattle.dr_meaning.specs.Runs.{Run};
+ghost use Rattle.dr_meaning.specs.Types.{Estate, PlanMachine};
+ghost use Rattle.dr_meaning.specs.declared.stage.Stage.{Stage as StageValue};
+ghost use Rattle.dr_meaning.specs.Worlds.{World};
+ghost use Rattle.dr_meaning.specs.Reach.{works, side_of_wave};
+ghost use Rattle.dr_meaning.specs.Expected.{wanted};
+ghost use Rattle.dr_groups.specs.Groups.{IsMachineOf};
+ghost use Rattle.dr_base.specs.Lists.{has};
+ghost use Rattle.dr_meaning.specs.Runs.{Run, op, new, holds};
 ghost use Rattle.dr_meaning.specs.Lawful.{token_of, tokens_from};
 ghost use Rattle.dr_meaning.specs.Outcomes.{made_post, PostOutcome, IsAsWanted};
-ghost use Rattle.dr_meaning.specs.InOrder.{has_code};
-ghost use Rattle.dr_meaning.specs.Calls.{KeepsCodes};
+ghost use Rattle.dr_meaning.specs.InOrder.{has_code, MayRun};
+ghost use Rattle.dr_meaning.specs.Calls.{KeepsCodes, CallsMachines};
 ghost use Rattle.dr_meaning.specs.Changes.{IsMachineCommand, GrowsBy};
 ghost use Rattle.dr_wave.specs.declared.slot.StartWant.{StartWant as StartWanted};
 ghost use Rattle.dr_wave.specs.declared.slot.Want.{Want as Wanted};
 ghost use Rattle.dr_wave.specs.declared.slot.Found.{Found as FoundValue};
 ghost use Rattle.dr_wave.specs.Steps.{placed_of, Step};
 ghost use Rattle.dr_wave.specs.declared.slot.Slot.{Slot as SlotValue};
-ghost use Rattle.dr_wave.specs.Waves.{slot_state, want_at, found_at, InPlace};
-ghost use Rattle.dr_wave.specs.Wants.{works_at, IsWantOf};
+ghost use Rattle.dr_wave.specs.Waves.{slot_state, want_at, found_at, InPlace, StepsAt};
+ghost use Rattle.dr_wave.specs.Wants.{works_at, IsStageWant, IsWantOf, with_slots};
 
 use dr_outside::Port;
 
@@ -90,6 +97,21 @@ pub fn steps_end_for_their_cause<P: Port>()
         ¬ Rose (old.faults side) (new.faults side) → (codes : List (Option ℕ)) × (found ≡ FoundValue.Made codes) }
     ensures clear_complete { P.tells → (side : Side) (old new : PortState) (found : FoundValue) → Step P.tells (Wanted.Clear side) old new found →
         ¬ Rose (old.faults side) (new.faults side) → (codes : List (Option ℕ)) × (found ≡ FoundValue.Made codes) }
+{}
+
+/// So a wave is its stage's work on machines: where the slot of each machine that is picked wants what
+/// the stage wants, and each machine that was started anew may be so, the outside changed as the laws on
+/// runs ask for it.
+pub fn waves_call_machines<P: Port>()
+    ensures { P.tells → (estate : Estate) (run : Run) (stage : StageValue) (world : World) (picks : List ℕ) (was now : List (SlotValue P)) →
+        ((m : ℕ) → has picks m ≡ true → StepsAt P.tells P.state (want_at was m) was now m) →
+        ((m : ℕ) → has picks m ≡ false → slice_get now m ≡ slice_get was m) →
+        ((m : ℕ) (side : Side) → has picks m ≡ true → works_at (want_at was m) side ≡ works run stage m side) →
+        ((g m : ℕ) → IsMachineOf estate g m → has picks m ≡ true →
+        (holds g run ≡ true) × IsStageWant stage.kind (side_of_wave (op run) run.old stage.kind) (wanted g run m) (want_at was m)) →
+        ((m : PlanMachine) → Contains run.plan.machines m → is_started (at (new run) (slot_state P.state was m.machine).post) ≡ false →
+        is_started (at (new run) (slot_state P.state now m.machine).post) ≡ true → MayRun (with_slots P.state now world) run m) →
+        CallsMachines estate run stage (with_slots P.state was world) (with_slots P.state now world) }
 {}
 
 /// A start may go on where an earlier one ended: the machine isn't registered, or stands as wanted.

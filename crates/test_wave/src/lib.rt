@@ -1,0 +1,11 @@
+//! Tests of the machines of a wave.
+#![tactic(auto)]
+
+#[cfg(test)]
+mod files;
+#[cfg(test)]
+mod machines;
+#[cfg(test)]
+mod steps;
+#[cfg(test)]
+mod waves;
