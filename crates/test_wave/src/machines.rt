@@ -76,7 +76,10 @@ pub fn standing(alloc: Global, post: &Post) -> Option<SimPort> {
             register(&mut port, placed);
             Some(port)
         }
-        Post::On(placed) => started(opened(alloc, &[PortFault { call: 2, leaves: 1 }], 4)?, placed),
+        Post::On(placed) => started(
+            opened(alloc, &[PortFault { call: 2, leaves: 1 }], 4)?,
+            placed,
+        ),
         Post::Ready(placed) => started(opened(alloc, &[], 4)?, placed),
     }
 }
@@ -109,7 +112,8 @@ pub fn step<P: Port + Send + Drop>(
     port: P,
     want: &Want,
 ) -> Option<Slot<P>> {
-    let mut slots = Vec::from_array(alloc, [slot(0, port, want)]).ok()?;
+    let mut slots = Vec::new(alloc);
+    slots.push(slot(0, port, want)).ok()?;
     run_wave(rt, alloc, &mut slots, &[0], 1);
     slots.pop()
 }

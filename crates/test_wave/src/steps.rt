@@ -49,14 +49,16 @@ fn a_start_makes_a_machine_ready_as_wanted(rt: HostRuntime) {
     }
 }
 
-// Whether a start leaves a machine alone that stands there otherwise.
+// Whether a start leaves a machine alone that stands so.
+fn is_odd(rt: &(impl Threads + Sync), alloc: Global, post: &Post, want: &Want) -> bool {
+    steps(rt, alloc, post, want, &Found::Odd(Side::B, *post), post)
+}
+
+// The same of one that is registered there.
 fn leaves_alone(rt: &(impl Threads + Sync), alloc: Global, placed: &Placed, want: &Want) -> bool {
-    let off = Post::Off(*placed);
-    let on = Post::On(*placed);
-    let ready = Post::Ready(*placed);
-    steps(rt, alloc, &off, want, &Found::Odd(Side::B, off), &off)
-        && steps(rt, alloc, &on, want, &Found::Odd(Side::B, on), &on)
-        && steps(rt, alloc, &ready, want, &Found::Odd(Side::B, ready), &ready)
+    is_odd(rt, alloc, &Post::Off(*placed), want)
+        && is_odd(rt, alloc, &Post::On(*placed), want)
+        && is_odd(rt, alloc, &Post::Ready(*placed), want)
 }
 
 #[test]
@@ -189,7 +191,10 @@ fn clears_again(rt: &(impl Threads + Sync), alloc: Global, call: u64, leaves: u8
 fn a_clearing_that_failed_at_any_call_goes_on(rt: HostRuntime) {
     for call in 1..4 {
         for leaves in 0..3 {
-            assert!(rt; clears_again(&rt, rt.alloc(), call, leaves), "{call} {leaves}");
+            assert!(rt;
+                clears_again(&rt, rt.alloc(), call, leaves),
+                "{call} {leaves}"
+            );
         }
     }
 }

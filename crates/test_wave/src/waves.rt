@@ -2,7 +2,7 @@
 
 use crate::machines::{at_home, in_lab, name, opened, slot, start_at};
 use dr_base::{Name, Side};
-use dr_outside::{Port, Post};
+use dr_outside::{Placed, Port, Post};
 use dr_sim::{PortFault, SimPort};
 use dr_wave::{Found, Slot, Want, look, run_wave};
 use std::alloc::Global;
@@ -98,13 +98,18 @@ fn only_picked_machines_take_their_step(rt: HostRuntime) {
     assert!(rt; found(&slots, &made, &made, &made));
 }
 
+// A machine that is ready at its home A, and found to stand so at B, if that call didn't fail.
+fn looked(home: &Placed, there: Option<Post>) -> Found {
+    Found::Looked(Some(Post::Ready(*home)), there)
+}
+
 #[test]
 fn a_look_finds_both_posts_but_where_it_fails(rt: HostRuntime) {
-    let home = Some(Post::Ready(at_home(&rt)));
-    let there = Some(Post::Placeholder);
-    let whole = Found::Looked(home, there);
+    let home = at_home(&rt);
+    let whole = looked(&home, Some(Post::Placeholder));
+    let half = looked(&home, None);
     let fault = PortFault { call: 2, leaves: 0 };
     let mut slots = three(rt.alloc(), &Want::Nothing, fault).expect(&rt, "memory");
     look(&rt, &mut slots, 64);
-    assert!(rt; found(&slots, &whole, &Found::Looked(home, None), &whole));
+    assert!(rt; found(&slots, &whole, &half, &whole));
 }
