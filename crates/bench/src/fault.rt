@@ -51,7 +51,7 @@ impl Display for Fault {
             Fault::Words => f.write_str(
                 "the words are `smallest` alone, or one of these, which `times` may follow: \
                  `append RECORDS BYTES`, `walk RECORDS BYTES`, `decode RECORDS`, \
-                 `machines COUNT`, `kept COMMANDS MORE`",
+                 `machines COUNT`, `kept COMMANDS MORE`, `wave COUNT`",
             ),
             Fault::System(kind) => write!(f, "the system refused a call: {kind}"),
             Fault::Journal(fault) => write!(f, "a call of the journal failed: {fault:?}"),

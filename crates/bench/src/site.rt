@@ -15,7 +15,8 @@ const KEPT: &str = "runner.kept";
 
 const PLAIN: &str = "plain.kept";
 
-fn placement() -> Option<Placement> {
+/// The placement of machines that are started.
+pub(crate) fn placement() -> Option<Placement> {
     Some(Placement {
         network: Name::read(b"lan-b")?,
         folder: Path::read(b"dr/web")?,
