@@ -1,9 +1,9 @@
 -- The walk over the gates of a file, step by step.
-use Rattle.std.proofs.Common.{◌≡◌, ◌≢◌, inl, inr, ℕ, suc, ◌+◌, ◌<◌, ◌≤◌, ◌^◌, List, [], ◌∷◌, ◌++◌, length, get_or, take, drop, true, nat_eq, nat_lt, if◌then◌else◌, refl, sym, ◌∙◌, ap, arith, length-append, length-take, length-drop, append_assoc}
+use Rattle.std.proofs.Common.{◌≡◌, ◌≢◌, ◌==◌, Bool, false, inl, inr, ℕ, suc, ◌+◌, ◌<◌, ◌≤◌, ◌^◌, List, [], ◌∷◌, ◌++◌, length, get_or, take, drop, true, nat_eq, nat_lt, if◌then◌else◌, refl, sym, ◌∙◌, ap, arith, length-append, length-take, length-drop, append_assoc}
 use Rattle.std.proofs.Math.Seq.{take-add}
 use Rattle.std.specs.Cmp.Lexicographic.{same_text}
 use Rattle.std.proofs.lemmas.List.{append-nil, take-append-drop, drop_more, get_or-drop, get_or-take, get_or_past}
-use Rattle.std.proofs.lemmas.Bool.{cases_lt}
+use Rattle.std.proofs.lemmas.Bool.{cases_lt, eqb-true, eq-eqb}
 use Rattle.std.proofs.lemmas.Bool.Decides.{nat_tests}
 use Rattle.std.proofs.lemmas.Nat.{be_bytes_4}
 use Rattle.std.specs.Int.{to_be_bytes, w32}
@@ -12,7 +12,7 @@ use Rattle.dr_journal.specs.Reading.{header, body_size, journal_in, record_bytes
 use Rattle.dr_journal.specs.Reading.Reading.{DamagedAt}
 use Rattle.dr_journal.specs.Gates.{gate_in}
 use Rattle.dr_journal.specs.declared.gates.Gate.{Gate}
-use Rattle.dr_journal.specs.declared.gates.Gate.TheVariants.{Open, CutShort}
+use Rattle.dr_journal.specs.declared.gates.Gate.TheVariants.{Missing, Closed, Open, CutShort}
 use Rattle.dr_journal.specs.Held.{HasFront, ClosesAt}
 use Rattle.dr_journal.proofs.FileParts.{length-header, journal_in-open, all_record_bytes-push}
 
@@ -48,13 +48,7 @@ open_size n remaining room = grind (arith, nat_tests)
 cut_size : (n remaining : ℕ) → remaining ≤ 5 + n → (if nat_lt (5 + n) remaining then Open n else CutShort) ≡ CutShort
 cut_size n remaining cut = grind (arith, nat_tests)
 
-bytes_fit : (file : List ℕ) (k : ℕ) → ((i : ℕ) → get_or file i 0 < 256) → (i : ℕ) → get_or (take 4 (drop k file)) i 0 < 256
-bytes_fit file k fits i = elim (cases_lt i 4) [
-  | inl below ↦ rw (get_or-take 4 (drop k file) i 0 below, get_or-drop k file i 0) (fits (k + i))
-  | inr past ↦ rw (get_or_past (take 4 (drop k file)) i 0 (omega (arith, length-take 4 (drop k file)))) (omega arith)
-]
-
-pub goes_on : (form : ℕ) (bodies : List (List ℕ)) (at n : ℕ) (file : List ℕ) → HasFront form bodies at file → ((i : ℕ) → get_or file i 0 < 256) → get_or file at 0 ≡ 165 → n ≡ body_size (drop (at + 1) file)
+pub goes_on : (form : ℕ) (bodies : List (List ℕ)) (at n : ℕ) (file : List ℕ) → HasFront form bodies at file → ((i : ℕ) → get_or (take 4 (drop (at + 1) file)) i 0 < 256) → get_or file at 0 ≡ 165 → n ≡ body_size (drop (at + 1) file)
     → 4 + n < length (drop (at + 1) file) → HasFront form (bodies ++ take n (drop 4 (drop (at + 1) file)) ∷ []) (at + (5 + n)) file
 unfolding body_size
 goes_on form bodies at n file front fits is n_is whole =
@@ -62,7 +56,7 @@ goes_on form bodies at n file front fits is n_is whole =
     let body = take n (drop 4 rest) in
     let body_len : length body ≡ n = omega (arith, length-take n (drop 4 rest), length-drop 4 rest) in
     let four : length (take 4 rest) ≡ 4 = omega (arith, length-take 4 rest) in
-    let field : to_be_bytes w32 (length body) ≡ take 4 rest = ap (to_be_bytes w32) body_len ∙ be_bytes_4 (take 4 rest) n four (bytes_fit file (at + 1) fits) n_is in
+    let field : to_be_bytes w32 (length body) ≡ take 4 rest = ap (to_be_bytes w32) body_len ∙ be_bytes_4 (take 4 rest) n four fits n_is in
     let whole_len : 5 + n ≡ suc (4 + n) = omega arith in
     let here : drop at file ≡ 165 ∷ rest = drop_more file at 0 front.inside ∙ ap (λ (g : ℕ). g ∷ rest) is in
     let next : take (5 + n) (drop at file) ≡ record_bytes body =
@@ -85,3 +79,46 @@ other_gate remaining rest gate told other = elim (cases_lt (5 + body_size rest) 
   | inl room ↦ absurd (other (body_size rest) (sym told ∙ open_size (body_size rest) remaining room))
   | inr cut ↦ cut
 ]
+
+-- What stands at a gate's place ------------------------------------------------------------------------
+
+open_byte : (b : Bool) (x : Gate) (n : ℕ) → (if b then x else Closed) ≡ Open n → b ≡ true
+open_byte true x n told = refl
+open_byte false x n told = absurd (let wrong : Closed ≡ Open n = told in cc)
+
+cut_byte : (b : Bool) (x : Gate) → (if b then x else Closed) ≡ CutShort → b ≡ true
+cut_byte true x told = refl
+cut_byte false x told = absurd (let wrong : Closed ≡ CutShort = told in cc)
+
+closed_byte : (b c : Bool) (n : ℕ) → (if b then (if c then Open n else CutShort) else Closed) ≡ Closed → b ≡ false
+closed_byte true true n told = absurd (let wrong : Open n ≡ Closed = told in cc)
+closed_byte true false n told = absurd (let wrong : CutShort ≡ Closed = told in cc)
+closed_byte false c n told = refl
+
+never_missing : (b c : Bool) (n : ℕ) → (if b then (if c then Open n else CutShort) else Closed) ≡ Missing → ⊥
+never_missing true true n told = let wrong : Open n ≡ Missing = told in cc
+never_missing true false n told = let wrong : CutShort ≡ Missing = told in cc
+never_missing false c n told = let wrong : Closed ≡ Missing = told in cc
+
+module _ (remaining byte : ℕ) (rest : List ℕ) where
+  pub is_open : (n : ℕ) → gate_in remaining (byte ∷ rest) ≡ Open n → (byte ≡ 165) × (n ≡ body_size rest) × (5 + n < remaining)
+  is_open n told =
+      let is : byte ≡ 165 = eqb-true byte 165 (open_byte (byte == 165) (if nat_lt (5 + body_size rest) remaining then Open (body_size rest) else CutShort) n told) in
+      let all = open_gate remaining n rest (ap (λ b. gate_in remaining (b ∷ rest)) (sym is) ∙ told) in
+      (is, all.0, all.1)
+
+  pub is_cut : gate_in remaining (byte ∷ rest) ≡ CutShort → (byte ≡ 165) × (remaining ≤ 5 + body_size rest)
+  is_cut told =
+      let is : byte ≡ 165 = eqb-true byte 165 (cut_byte (byte == 165) (if nat_lt (5 + body_size rest) remaining then Open (body_size rest) else CutShort) told) in
+      (is, other_gate remaining rest CutShort (ap (λ b. gate_in remaining (b ∷ rest)) (sym is) ∙ told) (λ n same. cc))
+
+  pub is_closed : gate_in remaining (byte ∷ rest) ≡ Closed → byte ≢ 165
+  is_closed told same = let no : false ≡ true = sym (closed_byte (byte == 165) (nat_lt (5 + body_size rest) remaining) (body_size rest) told) ∙ eq-eqb byte 165 same in cc
+
+  pub not_missing : gate_in remaining (byte ∷ rest) ≡ Missing → ⊥
+  not_missing told = never_missing (byte == 165) (nat_lt (5 + body_size rest) remaining) (body_size rest) told
+
+-- a record whose gate is open ends in front of the file's end
+pub open_inside : (remaining n : ℕ) (bytes : List ℕ) → gate_in remaining bytes ≡ Open n → 5 + n < remaining
+open_inside remaining n [] told = absurd (let wrong : Missing ≡ Open n = told in cc)
+open_inside remaining n (byte ∷ rest) told = (is_open remaining byte rest n told).2

@@ -5,4 +5,5 @@ mod AppendCalls
 mod OpenedFile
 mod NextRecord
 mod Reader
+mod OpeningWalk
 pub mod Laws

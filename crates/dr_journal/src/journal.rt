@@ -67,7 +67,7 @@ fn fill(buffer: &mut Vec<u8>, body: &[u8])
 impl Journal {
     /// Opens the journal of a disk. It makes a file of fewer than 18 bytes the empty journal of 17
     /// bytes, and cuts what stands behind the closing gate of a longer one. Nothing is reserved
-    /// then. The whole file is in memory for the time of the call.
+    /// then. The file is read through a window of 64 KiB.
     ///
     /// `Damaged` comes where the file is no journal, and from which place on.
     pub fn open<D: Disk>(alloc: Global, disk: &mut D) -> Result<Journal, JournalFault>

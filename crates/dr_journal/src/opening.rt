@@ -10,7 +10,6 @@ ghost use Rattle.dr_journal.specs.State.{JournalState, IsOpen};
 ghost use Rattle.dr_journal.specs.Causes.{OpenFault};
 
 use crate::JournalFault;
-use crate::file_reads::read_range;
 use crate::gate_walk::find_closing_gate;
 use dr_base::Failed;
 use dr_disk::{Disk, GREATEST_LIMIT};
@@ -37,28 +36,6 @@ fn is_empty<D: Disk>(disk: &mut D, size: u64) -> Result<bool, Failed>
     let mut bytes = [0; 17];
     disk.read_at(0, &mut bytes)?;
     Ok(bytes == EMPTY)
-}
-
-// The place of the closing gate of a file of this size, which is read whole by one call.
-fn closing_gate<D: Disk>(alloc: Global, disk: &mut D, size: u64) -> Result<u64, JournalFault>
-    requires long { 18 ≤ size }
-    requires small { size ≤ GREATEST_LIMIT }
-    requires size { ForSome (D.reads disk.old) (λ file. size ≡ length file) }
-
-    ensures closes { IfOk result (λ gate. ForSome (D.reads disk.old) (λ file.
-        (bodies : List (List ℕ)) × ClosesAt form_1 bodies gate file)) }
-    ensures inside { IfOk result (λ gate. (16 ≤ gate) × (gate < size)) }
-    ensures fault { IfErr result (OpenFault (D.reads disk.old) (D.faults disk.old) (D.faults disk.new)) }
-    ensures same { D.reads disk.new ≡ D.reads disk.old }
-    ensures images { NoOther (D.images disk.old) (D.images disk.new) }
-    ensures limit { D.limit disk.new ≡ D.limit disk.old }
-    ensures counts { D.faults disk.old ≤ D.faults disk.new }
-{
-    let file = read_range(alloc, disk, 0, size)?;
-    match find_closing_gate(&file) {
-        Ok(gate) => Ok(gate as u64),
-        Err(place) => Err(JournalFault::Damaged(place as u64)),
-    }
 }
 
 // Makes a file of this size, which is below 18 bytes, the empty journal, written over all of them. Until
@@ -131,7 +108,7 @@ pub(crate) fn trim<D: Disk>(alloc: Global, disk: &mut D, size: u64) -> Result<u6
         make_empty(disk, size)?;
         return Ok(17);
     }
-    let gate = closing_gate(alloc, disk, size)?;
+    let gate = find_closing_gate(alloc, disk, size)?;
     cut_behind(disk, gate, size)?;
     Ok(gate + 1)
 }

@@ -30,6 +30,22 @@ pub(crate) struct Window {
 }
 
 impl Window {
+    /// Has the window begin no later than this place and hold bytes up to it: where it ends in front of
+    /// the place, it holds none from there on.
+    pub(crate) fn go_to(&mut self, at: u64)
+        requires first { self.old.start ≤ at }
+        requires most { self.old.start + vec_len self.old.bytes ≤ GREATEST_LIMIT }
+        ensures first { self.new.start ≤ at }
+        ensures last { at ≤ self.new.start + vec_len self.new.bytes }
+        ensures within { self.new.start + vec_len self.new.bytes ≤ max (self.old.start + vec_len self.old.bytes) at }
+        ensures bytes { (file : List ℕ) → AreAt file self.old.start self.old.bytes.items → AreAt file self.new.start self.new.bytes.items }
+    {
+        if self.start + (self.bytes.len() as u64) < at {
+            self.start = at;
+            self.bytes.clear();
+        }
+    }
+
     /// Has the window hold so many bytes of a file of length `end` from this place on. If it doesn't
     /// yet, what stands in front of the place makes room, and further bytes are read behind those
     /// that it holds: up to 64 KiB in all, or so many. After an `Err` it holds what it held from the

@@ -1,46 +1,83 @@
-use Rattle.std.proofs.Common.{◌≡◌, ℕ, ◌+◌, ◌-◌, drop, length, [], ◌∷◌, ◌++◌, take, sym, ◌∙◌, ap, arith, rules, length-drop}
-use Rattle.std.proofs.lemmas.List.{drop_more, take_rest}
+use Rattle.std.proofs.Common.{◌≡◌, ℕ, ◌+◌, ◌-◌, ◌≤◌, List, [], length, Some, refl, sym, ◌∙◌, arith}
 use Rattle.dr_journal.specs.Reading.{form_1}
-use Rattle.dr_journal.specs.Gates.{gate_in}
-use Rattle.dr_journal.proofs.GateWalk.{begun, place_is, ends, cut_short, goes_on, open_gate, other_gate}
+use Rattle.dr_journal.specs.Held.{HasFront}
+use Rattle.dr_journal.proofs.GateWalk.{begun}
+use Rattle.dr_journal.proofs.OpeningWalk.{front_on, closes_there, damaged_at}
 use Rattle.dr_journal.proofs.gate_walk.walk_gates.Goals as goal
 
-pub loop-at-init : goal.loop-at-init
-loop-at-init c = ([], begun form_1 c.args.file.now c.requires.long c.requires.begun)
+pub loop-gate-init : goal.loop-gate-init
+loop-gate-init g c = (
+  record {
+    least = omega arith;
+    inside = omega (arith, c.requires.long);
+    room = c.in_ok-gate.ensures.open;
+    first = c.in_ok-gate.ensures.first;
+    within = c.in_ok-gate.ensures.within;
+    shows = λ f reads. c.in_ok-gate.ensures.bytes f (sym c.gate_at.ensures.same ∙ reads);
+    front = λ f reads.
+        let was = sym c.gate_at.ensures.same ∙ reads in
+        ([], begun form_1 f (omega (arith, c.requires.ends f was, c.requires.long)) (c.requires.begun f was));
+    told = λ f reads. c.in_ok-gate.ensures.gate f (sym c.gate_at.ensures.same ∙ reads);
+    fits = λ f reads. c.in_ok-gate.ensures.fits f (sym c.gate_at.ensures.same ∙ reads);
+  },
+  refl,
+  λ file here. here,
+  refl,
+  omega arith,
+)
 
-pub returns-in_default : goal.returns-in_default
-returns-in_default c =
-    let front = c.loop-at.invariant in
-    let at = c.loop-at.at in
-    let file = c.args.file.now in
-    let told = rw take_rest at c.gate_of.ensures in
-    let here : drop at file ≡ 165 ∷ drop (at + 1) file = drop_more file at 0 front.1.inside ∙ ap (λ (gate : ℕ). gate ∷ drop (at + 1) file) c.loop-at-test.true in
-    let cut = other_gate (length file - at) (drop (at + 1) file) c.gate_of.result (ap (gate_in (length file - at)) (sym here) ∙ sym told) c.in_default.not-Open in
-    record {
-      shut = search rules;
-      inside = search rules;
-      damaged = cut_short form_1 front.0 at file front.1 c.requires.short c.requires.long c.loop-at-test.true (omega (arith, cut, length-drop (at + 1) file));
-    }
-
-pub loop-at-preserved : goal.loop-at-preserved
-loop-at-preserved c =
-    let front = c.loop-at.invariant in
-    let at = c.loop-at.at in
-    let file = c.args.file.now in
-    let told = rw take_rest at c.gate_of.ensures in
-    let here : drop at file ≡ 165 ∷ drop (at + 1) file = drop_more file at 0 front.1.inside ∙ ap (λ (gate : ℕ). gate ∷ drop (at + 1) file) c.loop-at-test.true in
-    let opened = open_gate (length file - at) c.in-Open.size (drop (at + 1) file) (ap (gate_in (length file - at)) (sym here) ∙ sym told ∙ c.in-Open.is) in (
-      front.0 ++ take c.in-Open.size (drop 4 (drop (at + 1) file)) ∷ [],
-      goes_on form_1 front.0 at c.in-Open.size file front.1 (λ i. let f = c.type_inv.file i in omega arith) c.loop-at-test.true opened.0 (omega (arith, opened.1, length-drop (at + 1) file)),
+pub loop-gate-preserved : goal.loop-gate-preserved
+loop-gate-preserved g c =
+    let walk = c.loop-gate.invariant.0 in
+    let same = c.loop-gate.invariant.1 in
+    let room = walk.room c.in-Open.size c.in-Open.is in (
+      record {
+        least = omega (arith, walk.least);
+        inside = omega (arith, room, walk.inside);
+        room = c.in_ok-gate-2.ensures.open;
+        first = c.in_ok-gate-2.ensures.first;
+        within = c.in_ok-gate-2.ensures.within;
+        shows = λ f reads. c.in_ok-gate-2.ensures.bytes f (same ∙ reads);
+        front = λ f reads.
+            let front = walk.front f reads in
+            front_on f c.args.end c.loop-gate.at c.loop-gate.gate front.0 front.1 (c.requires.ends f (sym c.gate_at.ensures.same ∙ reads)) (walk.told f reads) c.in-Open.size c.in-Open.is (walk.fits f reads);
+        told = λ f reads. c.in_ok-gate-2.ensures.gate f (same ∙ reads);
+        fits = λ f reads. c.in_ok-gate-2.ensures.fits f (same ∙ reads);
+      },
+      c.gate_at-in-Open.ensures.same ∙ same,
+      λ file here. c.loop-gate.invariant.2 file (c.gate_at-in-Open.ensures.images file here),
+      c.gate_at-in-Open.ensures.limit ∙ c.loop-gate.invariant.3,
+      omega (arith, c.loop-gate.invariant.4, c.gate_at-in-Open.ensures.counts),
     )
 
-pub returns-clause-shut : goal.returns-clause-shut
-returns-clause-shut c =
-    let front = c.loop-at.invariant in
-    (front.0, ends form_1 front.0 c.loop-at.at c.args.file.now front.1 c.loop-at-test.false)
+pub returns-in-Closed : goal.returns-in-Closed
+returns-in-Closed g c =
+    let walk = c.loop-gate.invariant.0 in
+    record {
+      closes = λ f reads.
+          let now = c.gate_at.ensures.same ∙ reads in
+          let front = walk.front f now in
+          (front.0, closes_there f c.args.end c.loop-gate.at c.loop-gate.gate front.0 front.1 (c.requires.ends f reads) (walk.told f now) c.in-Closed.is);
+      inside = (walk.least, walk.inside);
+      fault = tt;
+      same = c.loop-gate.invariant.1 ∙ c.gate_at.ensures.same;
+      images = λ file here. c.gate_at.ensures.images file (c.loop-gate.invariant.2 file here);
+      limit = c.loop-gate.invariant.3 ∙ c.gate_at.ensures.limit;
+      counts = omega (arith, c.loop-gate.invariant.4, c.gate_at.ensures.counts);
+    }
 
-pub returns-clause-inside : goal.returns-clause-inside
-returns-clause-inside c =
-    let front = c.loop-at.invariant in
-    let at = place_is form_1 front.0 c.loop-at.at c.args.file.now front.1 in
-    (omega arith, omega (arith, front.1.inside))
+pub returns-in-Open-gate : goal.returns-in-Open-gate
+returns-in-Open-gate g c =
+    let walk = c.loop-gate.invariant.0 in
+    record {
+      closes = tt;
+      inside = tt;
+      fault = λ f reads.
+          let now = c.gate_at.ensures.same ∙ reads in
+          let front = walk.front f now in
+          damaged_at f c.args.end c.loop-gate.at c.loop-gate.gate front.0 front.1 (c.requires.ends f reads) (walk.told f now) c.in_default.not-Open c.in-Open-gate.is (omega (arith, c.requires.most)) c.requires.long;
+      same = c.loop-gate.invariant.1 ∙ c.gate_at.ensures.same;
+      images = λ file here. c.gate_at.ensures.images file (c.loop-gate.invariant.2 file here);
+      limit = c.loop-gate.invariant.3 ∙ c.gate_at.ensures.limit;
+      counts = omega (arith, c.loop-gate.invariant.4, c.gate_at.ensures.counts);
+    }
