@@ -1,11 +1,15 @@
 -- Steps, part by part.
-use Rattle.std.specs.Prelude.{Option, Some, None}
+use Rattle.std.specs.Prelude.{Option, Some, None, Result, Ok, Err, is_ok, IfOk}
 use Rattle.std.proofs.Common.{◌≡◌, ℕ, ◌+◌, ◌∙◌, ◌⊎◌, inl, inr, true, false, List, [], ◌∷◌, refl, sym}
 use Rattle.std.proofs.lemmas.List.{append-nil}
 use Rattle.dr_base.specs.declared.side.Side.{Side}
 use Rattle.dr_outside.specs.Commands.{code_of}
-use Rattle.dr_outside.specs.Machines.{PortState, SameMachine, CommandRuns}
+use Rattle.dr_outside.specs.declared.machine.PortFail.{PortFail}
+use Rattle.dr_outside.specs.declared.machine.PortFail.TheVariants.{Failed, Wrong, Ran}
+use Rattle.dr_outside.specs.Machines.{PortState, SameMachine, CommandRuns, CommandStep}
+use Rattle.dr_wave.specs.declared.slot.Found.{Found}
 use Rattle.dr_wave.specs.Commands.{Command, commands_from, CommandsRun, AreCodes}
+use Rattle.dr_wave.specs.Ends.{CommandEnd}
 use Rattle.dr_wave.proofs.KeptLaws.{unkept_none, unkept_some, none_ran, last_found, first_from, all_from, front_from, codes-append, kept_later, keeps_codes, all_is_first}
 
 -- One command ------------------------------------------------------------------------------------------
@@ -48,6 +52,22 @@ module _ (side : Side) (command : Command) (s0 s1 s2 : PortState) (same : SameMa
   pub failed_once : SameMachine s1 s2 ⊎ ((code : ℕ) × CommandRuns side command.token command.name s1 s2 code) → CommandsRun false side (command ∷ []) s0 s2
   failed_once (inl still) = record { post = still.post ∙ same.post; ran = rw still.kept not_run.ran }
   failed_once (inr (code, runs)) = run_first code runs
+
+-- the same by the command's answer, of which the step makes its own
+module _ (side : Side) (command : Command) (s0 s1 s2 : PortState) (same : SameMachine s0 s1) where
+  pub ends_run : (answer : Result ℕ PortFail) (end : Result ℕ Found) → CommandStep side command.token command.name s1 s2 answer → CommandEnd side answer end → CommandsRun (is_ok end) side (command ∷ []) s0 s2
+  ends_run (Ok code) end step is = rw is (run_now side command s0 s1 s2 same code step)
+  ends_run (Err Failed) end step is = rw is (failed_once side command s0 s1 s2 same step)
+  ends_run (Err (Wrong post)) end step is = absurd step
+  ends_run (Err (Ran code)) end step is =
+      let still : SameMachine s0 s2 = record { post = step.1.post ∙ same.post; kept = step.1.kept ∙ same.kept } in
+      rw is (kept_already side command s0 s2 s2 still code (rw same.kept at step.0))
+
+  pub ends_told : (answer : Result ℕ PortFail) (end : Result ℕ Found) → CommandStep side command.token command.name s1 s2 answer → CommandEnd side answer end → IfOk end (λ code. code_of s2.kept command.token ≡ Some code)
+  ends_told (Ok code) end step is = rw is (code_is side command s0 s1 s2 same code step)
+  ends_told (Err Failed) end step is = rw is tt
+  ends_told (Err (Wrong post)) end step is = absurd step
+  ends_told (Err (Ran code)) end step is = rw is (rw step.1.kept step.0)
 
 -- Two commands -----------------------------------------------------------------------------------------
 

@@ -1,4 +1,5 @@
 pub mod Commands
+pub mod Ends
 pub mod Steps
 pub mod Parts
 pub mod Waves

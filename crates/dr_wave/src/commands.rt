@@ -7,8 +7,9 @@ ghost use Rattle.dr_wave.specs.Commands.{commands_from, CommandsRun, AreCodes};
 ghost use Rattle.dr_wave.specs.Steps.{NoCountFalls};
 
 use crate::Found;
+use crate::answers::command_end;
 use dr_base::{Name, Side};
-use dr_outside::{Port, PortFail};
+use dr_outside::Port;
 
 // The token of the command at this place among those of a machine.
 fn token(root: u32, index: u32) -> u64
@@ -28,12 +29,7 @@ fn run_once<P: Port>(port: &mut P, side: Side, token: u64, name: &Name) -> Resul
 {
     match port.ran(side, token) {
         Ok(Some(code)) => Ok(code),
-        Ok(None) => match port.command(side, token, *name) {
-            Ok(code) => Ok(code),
-            Err(PortFail::Ran(code)) => Ok(code),
-            Err(PortFail::Failed) => Err(Found::Failed(side)),
-            Err(PortFail::Wrong(_)) => unreachable!(),
-        },
+        Ok(None) => command_end(side, port.command(side, token, *name)),
         Err(_) => Err(Found::Failed(side)),
     }
 }

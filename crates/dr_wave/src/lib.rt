@@ -2,6 +2,7 @@
 //! what it found.
 #![tactic(auto)]
 
+mod answers;
 mod commands;
 pub mod laws;
 mod looking;

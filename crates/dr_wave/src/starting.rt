@@ -4,9 +4,10 @@ ghost use Rattle.dr_meaning.specs.Outcomes.{IsAsWanted};
 ghost use Rattle.dr_wave.specs.Steps.{placed_of, NoCountFalls, EndCause, StartCause, StartLeaves, StartTold};
 ghost use Rattle.dr_wave.specs.Parts.{registered, Makes, TurnsOn, PoweredOn};
 
+use crate::answers::call_end;
 use crate::commands::run_two;
 use crate::{Found, StartWant};
-use dr_outside::{Placed, Port, PortFail, Post};
+use dr_outside::{Placed, Port, Post};
 
 // The placement that a start wants, in a bubble or not.
 fn placed(want: &StartWant) -> Placed
@@ -37,12 +38,7 @@ fn register_machine<P: Port>(port: &mut P, want: &StartWant, post: &Post) -> Res
         (P.state port.old) (P.state port.new) result }
 {
     match post {
-        Post::Placeholder => match port.register(want.side, want.place, want.bubble) {
-            Ok(()) => Ok(()),
-            Err(PortFail::Failed) => Err(Found::Failed(want.side)),
-            Err(PortFail::Wrong(found)) => Err(Found::Refused(want.side, found)),
-            Err(PortFail::Ran(_)) => unreachable!(),
-        },
+        Post::Placeholder => call_end(want.side, port.register(want.side, want.place, want.bubble)),
         Post::Off(_) | Post::On(_) | Post::Ready(_) => Ok(()),
     }
 }
@@ -58,12 +54,9 @@ fn turn_on<P: Port>(port: &mut P, want: &StartWant, post: &Post) -> Result<(), F
 {
     match post {
         Post::Ready(_) => Ok(()),
-        Post::Placeholder | Post::Off(_) | Post::On(_) => match port.start(want.side) {
-            Ok(()) => Ok(()),
-            Err(PortFail::Failed) => Err(Found::Failed(want.side)),
-            Err(PortFail::Wrong(found)) => Err(Found::Refused(want.side, found)),
-            Err(PortFail::Ran(_)) => unreachable!(),
-        },
+        Post::Placeholder | Post::Off(_) | Post::On(_) => {
+            call_end(want.side, port.start(want.side))
+        }
     }
 }
 

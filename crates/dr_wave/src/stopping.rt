@@ -7,8 +7,9 @@ ghost use Rattle.dr_wave.specs.Steps.{NoCountFalls, EndCause, PostCause, PostLea
 ghost use Rattle.dr_wave.specs.Parts.{Makes};
 
 use crate::Found;
+use crate::answers::call_end;
 use dr_base::Side;
-use dr_outside::{Port, PortFail, Post};
+use dr_outside::{Port, Post};
 
 // Turns a machine off that is on or ready.
 fn turn_off<P: Port>(port: &mut P, side: Side, post: &Post) -> Result<(), Found>
@@ -19,12 +20,7 @@ fn turn_off<P: Port>(port: &mut P, side: Side, post: &Post) -> Result<(), Found>
 {
     match post {
         Post::Placeholder | Post::Off(_) => Ok(()),
-        Post::On(_) | Post::Ready(_) => match port.stop(side) {
-            Ok(()) => Ok(()),
-            Err(PortFail::Failed) => Err(Found::Failed(side)),
-            Err(PortFail::Wrong(found)) => Err(Found::Refused(side, found)),
-            Err(PortFail::Ran(_)) => unreachable!(),
-        },
+        Post::On(_) | Post::Ready(_) => call_end(side, port.stop(side)),
     }
 }
 
@@ -37,12 +33,7 @@ fn remove<P: Port>(port: &mut P, side: Side, post: &Post) -> Result<(), Found>
 {
     match post {
         Post::Placeholder => Ok(()),
-        Post::Off(_) | Post::On(_) | Post::Ready(_) => match port.unregister(side) {
-            Ok(()) => Ok(()),
-            Err(PortFail::Failed) => Err(Found::Failed(side)),
-            Err(PortFail::Wrong(found)) => Err(Found::Refused(side, found)),
-            Err(PortFail::Ran(_)) => unreachable!(),
-        },
+        Post::Off(_) | Post::On(_) | Post::Ready(_) => call_end(side, port.unregister(side)),
     }
 }
 
