@@ -31,7 +31,7 @@ IsStageWant kind side wanted (Want.Start want) = (kind ≡ StageKind.Start) × (
 IsStageWant kind side wanted (Want.Stop s) = (kind ≡ StageKind.Stop) × (s ≡ side)
 IsStageWant kind side wanted (Want.Clear s) = (kind ≡ StageKind.Clear) × (s ≡ side)
 
--- the outside with the machines that are in slots, each in that of its number
+-- the outside with the machines in slots by the places of their slots, whatever numbers the slots hold; past the last slot there is no machine
 abbrev pub with_slots : {P : Type 0} → (P → PortState) → List (Slot P) → World → World
 with_slots state slots world = record world { post = λ m. (slot_state state slots m).post; kept = λ m. (slot_state state slots m).kept }
 

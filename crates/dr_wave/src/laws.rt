@@ -101,7 +101,8 @@ pub fn steps_end_for_their_cause<P: Port>()
 
 /// So a wave is its stage's work on machines: where the slot of each machine that is picked wants what
 /// the stage wants, and each machine that was started anew may be so, the outside changed as the laws on
-/// runs ask for it.
+/// runs ask for it. The outside has the machines by the places of their slots: a caller who wants a
+/// machine's number to be its slot's place must see to it.
 pub fn waves_call_machines<P: Port>()
     ensures { P.tells → (estate : Estate) (run : Run) (stage : StageValue) (world : World) (picks : List ℕ) (was now : List (SlotValue P)) →
         ((m : ℕ) → has picks m ≡ true → StepsAt P.tells P.state (want_at was m) was now m) →

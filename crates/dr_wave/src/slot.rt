@@ -4,7 +4,8 @@ use dr_outside::Post;
 /// One machine: its port, the step that is wanted of it, and what its last step found.
 #[derive(Debug, Drop)]
 pub struct Slot<P> {
-    /// The machine's number in the estate, from 0.
+    /// The machine's number in the estate, from 0. Steps and their laws go by the slot's place: a
+    /// caller who wants the number to be that place must see to it.
     pub machine: u32,
     pub port: P,
     pub want: Want,

@@ -30,8 +30,10 @@ fn step_at<P: Port>(slots: &mut [Slot<P>], i: usize, want: &Want)
     step_slot(&mut slots[i], want);
 }
 
-/// Asks of each machine how it stands at both sides, by at most this many workers at a time. What it
-/// finds are the posts at A and B, none where the call failed.
+/// Asks of each machine how it stands at both sides. What it finds are the posts at A and B, as they
+/// are where the port tells them; one is missing only where its side's count of faults rose.
+///
+/// `workers` is how many may work at a time, of which nothing is promised.
 pub fn look<P: Port + Send>(rt: &(impl Threads + Sync), slots: &mut [Slot<P>], workers: u32)
     requires some { 1 ≤ workers }
     requires few { workers ≤ 64 }
@@ -43,9 +45,12 @@ pub fn look<P: Port + Send>(rt: &(impl Threads + Sync), slots: &mut [Slot<P>], w
     }
 }
 
-/// Each slot that is picked takes the step that is wanted of it, by at most this many workers at a
-/// time, in no promised order; the others aren't touched. The picks are places of slots, strictly
-/// ascending. A failed call ends its own slot's step alone.
+/// Each slot that is picked takes the step that is wanted of it; the others aren't touched. The picks
+/// are places of slots, strictly ascending: a caller who wants a machine's number to be its slot's
+/// place must see to it. What is said of a slot's step is said of its own machine, whatever the other
+/// steps come to.
+///
+/// `workers` is how many may work at a time; of that, and of the order, nothing is promised.
 pub fn run_wave<P: Port + Send>(
     rt: &(impl Threads + Sync),
     alloc: Global,
