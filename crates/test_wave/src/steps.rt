@@ -1,6 +1,6 @@
 //! One machine's steps.
 
-use crate::machines::{elsewhere, in_lab, name, opened, standing, start_at, step};
+use crate::machines::{at_home, elsewhere, in_lab, name, opened, standing, start_at, step};
 use dr_base::{Name, Side};
 use dr_outside::{Kept, Placed, Port, Post};
 use dr_sim::PortFault;
@@ -167,9 +167,16 @@ fn a_start_that_failed_at_any_call_goes_on(rt: HostRuntime) {
     }
 }
 
-// Whether a clearing of a machine that is ready at A fails at this call, and is complete by a second try.
-fn clears_again(rt: &(impl Threads + Sync), alloc: Global, call: u64, leaves: u8) -> bool {
-    let want = &Want::Clear(Side::A);
+// Whether a step of a machine that is ready at A fails at this call, and by a second try is complete and
+// leaves this there.
+fn goes_down_again(
+    rt: &(impl Threads + Sync),
+    alloc: Global,
+    want: &Want,
+    call: u64,
+    leaves: u8,
+    left: &Post,
+) -> bool {
     let Some(port) = opened(alloc, &[PortFault { call, leaves }], 0) else {
         return false;
     };
@@ -181,7 +188,7 @@ fn clears_again(rt: &(impl Threads + Sync), alloc: Global, call: u64, leaves: u8
         Some(mut done) => {
             was == Found::Failed(Side::A)
                 && done.found == MADE
-                && done.port.post(Side::A) == Ok(Post::Placeholder)
+                && done.port.post(Side::A) == Ok(*left)
         }
         None => false,
     }
@@ -192,7 +199,28 @@ fn a_clearing_that_failed_at_any_call_goes_on(rt: HostRuntime) {
     for call in 1..4 {
         for leaves in 0..3 {
             assert!(rt;
-                clears_again(&rt, rt.alloc(), call, leaves),
+                goes_down_again(
+                    &rt,
+                    rt.alloc(),
+                    &Want::Clear(Side::A),
+                    call,
+                    leaves,
+                    &Post::Placeholder
+                ),
+                "{call} {leaves}"
+            );
+        }
+    }
+}
+
+// The calls of a stop are a post and the stop.
+#[test]
+fn a_stop_that_failed_at_any_call_goes_on(rt: HostRuntime) {
+    let off = Post::Off(at_home(&rt));
+    for call in 1..3 {
+        for leaves in 0..3 {
+            assert!(rt;
+                goes_down_again(&rt, rt.alloc(), &Want::Stop(Side::A), call, leaves, &off),
                 "{call} {leaves}"
             );
         }
