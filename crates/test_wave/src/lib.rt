@@ -6,6 +6,8 @@ mod files;
 #[cfg(test)]
 mod machines;
 #[cfg(test)]
+mod refusing;
+#[cfg(test)]
 mod steps;
 #[cfg(test)]
 mod waves;
