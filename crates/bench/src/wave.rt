@@ -52,6 +52,7 @@ fn by_wave(
     let Ok(count) = u32::try_from(slots.len()) else {
         return Err(Fault::Site);
     };
+    // What an array wants of a list of pairs, a wave wants of its picks: that they ascend, and are there.
     if !is_pair_list(count, picks) {
         return Err(Fault::Site);
     }

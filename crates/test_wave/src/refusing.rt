@@ -2,15 +2,16 @@
 
 ghost use Rattle.dr_outside.specs.Machines.{no_machine};
 
-use crate::machines::{at_home, in_lab, start_at, step};
+use crate::machines::{at_home, in_lab, name, start_at, step};
 use dr_base::{Name, Placement, Side};
-use dr_outside::{Port, PortFail, Post};
+use dr_outside::{Placed, Port, PortFail, Post};
 use dr_wave::{Found, Want};
 use std::alloc::Global;
 use std::thread::Threads;
 
 // A machine that tells one post when it is asked, and another one when it refuses a call. It may take a
-// registration and a stop, and refuses each start and each removal.
+// registration and a stop, and refuses each start and each removal. A command ran before, though it keeps
+// none when it is asked.
 #[derive(Drop)]
 struct RefusingPort {
     told: Post,
@@ -59,7 +60,7 @@ impl Port for RefusingPort {
     }
 
     fn command(&mut self, _side: Side, _token: u64, _name: Name) -> Result<u8, PortFail> {
-        Ok(0)
+        Err(PortFail::Ran(9))
     }
 }
 
@@ -106,4 +107,30 @@ fn a_refused_call_tells_the_post_that_it_found(rt: HostRuntime) {
         is_refused(&rt, rt.alloc(), &Want::Clear(Side::B), &on, &found, true),
         "unregister"
     );
+}
+
+// Whether the start of a machine that is ready, with one command, tells the code with which that ran before.
+fn tells_earlier_code(
+    rt: &(impl Threads + Sync),
+    alloc: Global,
+    placed: &Placed,
+    command: Name,
+) -> bool {
+    let port = RefusingPort {
+        told: Post::Ready(*placed),
+        found: Post::Placeholder,
+        registers: false,
+        stops: false,
+    };
+    let want = start_at(placed, [Some(command), None, None, None]);
+    match step(rt, alloc, port, &want) {
+        Some(slot) => slot.found == Found::Made([Some(9), None, None, None]),
+        None => false,
+    }
+}
+
+#[test]
+fn a_command_that_ran_before_tells_its_code(rt: HostRuntime) {
+    let placed = in_lab(&rt, true);
+    assert!(rt; tells_earlier_code(&rt, rt.alloc(), &placed, name(&rt, "warm")));
 }

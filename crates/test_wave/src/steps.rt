@@ -95,6 +95,27 @@ fn a_placeholder_stays_one(rt: HostRuntime) {
     assert!(rt; steps(&rt, rt.alloc(), none, &Want::Clear(Side::B), &MADE, none));
 }
 
+// Whether a look finds a machine that stands so at B, and is ready at its home at A.
+fn is_found(rt: &(impl Threads + Sync), alloc: Global, home: &Placed, post: &Post) -> bool {
+    let found = Found::Looked(Some(Post::Ready(*home)), Some(*post));
+    steps(rt, alloc, post, &Want::Look, &found, post)
+}
+
+// Whether it finds one that isn't registered at B, and one that is placed there, off, on and ready.
+fn finds_all(rt: &(impl Threads + Sync), alloc: Global, home: &Placed, placed: &Placed) -> bool {
+    is_found(rt, alloc, home, &Post::Placeholder)
+        && is_found(rt, alloc, home, &Post::Off(*placed))
+        && is_found(rt, alloc, home, &Post::On(*placed))
+        && is_found(rt, alloc, home, &Post::Ready(*placed))
+}
+
+#[test]
+fn a_look_finds_a_machine_wherever_it_stands(rt: HostRuntime) {
+    let home = at_home(&rt);
+    assert!(rt; finds_all(&rt, rt.alloc(), &home, &in_lab(&rt, true)));
+    assert!(rt; finds_all(&rt, rt.alloc(), &home, &elsewhere(&rt)));
+}
+
 // The calls of a machine that nothing is wanted of: none, so that the first one is the next.
 #[test]
 fn nothing_that_is_wanted_calls_nothing(rt: HostRuntime) {
