@@ -1,5 +1,5 @@
 // The walk over the gates of a file, through a window.
-ghost use Rattle.std.specs.Prelude.{◌≡◌, ◌+◌, ◌-◌, ◌<◌, ◌≤◌, List, ℕ, true, length, get_or, min, take, drop, nat_eq, IfOk, IfErr, vec_len};
+ghost use Rattle.std.specs.Prelude.{◌≡◌, ◌+◌, ◌-◌, ◌<◌, ◌≤◌, List, ℕ, true, length, get_or, min, max, take, drop, nat_eq, IfOk, IfErr, vec_len};
 ghost use Rattle.std.specs.Option.{ForSome};
 ghost use Rattle.std.specs.List.{starts_with};
 ghost use Rattle.dr_disk.specs.Disk.{NoOther};
@@ -48,6 +48,7 @@ fn gate_at<D: Disk>(
     ensures open { IfOk result (λ gate. (size : ℕ) → gate ≡ Open size → 5 + size < end - at) }
     ensures fits { IfOk result (λ gate. ForSome (D.reads disk.old) (λ file.
         (i : ℕ) → get_or (take 4 (drop (at + 1) file)) i 0 < 256)) }
+    ensures room { vec_len window.new.bytes ≤ max (vec_len window.old.bytes) 65536 }
     ensures first { window.new.start ≤ at }
     ensures within { window.new.start + vec_len window.new.bytes ≤ end }
     ensures bytes { ForSome (D.reads disk.old) (λ file. AreAt file window.new.start window.new.bytes.items) }
@@ -76,6 +77,7 @@ fn walk_gates<D: Disk>(window: &mut Window, disk: &mut D, end: u64) -> Result<u6
     ensures closes { IfOk result (λ gate. ForSome (D.reads disk.old) (λ file.
         (bodies : List (List ℕ)) × ClosesAt form_1 bodies gate file)) }
     ensures inside { IfOk result (λ gate. (16 ≤ gate) × (gate < end)) }
+    ensures room { vec_len window.new.bytes ≤ max (vec_len window.old.bytes) 65536 }
     ensures fault { IfErr result (OpenFault (D.reads disk.old) (D.faults disk.old) (D.faults disk.new)) }
     ensures same { D.reads disk.new ≡ D.reads disk.old }
     ensures images { NoOther (D.images disk.old) (D.images disk.new) }

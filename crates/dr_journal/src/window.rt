@@ -38,6 +38,8 @@ impl Window {
         ensures first { self.new.start ≤ at }
         ensures last { at ≤ self.new.start + vec_len self.new.bytes }
         ensures within { self.new.start + vec_len self.new.bytes ≤ max (self.old.start + vec_len self.old.bytes) at }
+        ensures room { vec_len self.new.bytes ≤ vec_len self.old.bytes }
+        ensures stays { at ≤ self.old.start + vec_len self.old.bytes → self.new ≡ self.old }
         ensures bytes { (file : List ℕ) → AreAt file self.old.start self.old.bytes.items → AreAt file self.new.start self.new.bytes.items }
     {
         if self.start + (self.bytes.len() as u64) < at {

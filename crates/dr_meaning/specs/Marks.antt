@@ -16,10 +16,34 @@ pub record MarkedLine : Type 0 where
 
 -- Whether a line got the journal open ----------------------------------------------------------------------
 
+-- whether what there is too much of are an estate's bytes
+abbrev pub are_bytes : Limit → Bool
+are_bytes Limit.Bytes = true
+are_bytes Limit.Machines = false
+are_bytes Limit.Devices = false
+are_bytes Limit.Datastores = false
+are_bytes Limit.Consistency = false
+are_bytes Limit.Groups = false
+are_bytes Limit.Maps = false
+are_bytes Limit.Plans = false
+are_bytes Limit.MachineDatastores = false
+are_bytes Limit.DatastoreDevices = false
+are_bytes Limit.PlanSteps = false
+are_bytes Limit.PlanAfter = false
+are_bytes Limit.PlanBefore = false
+are_bytes Limit.PlanThen = false
+are_bytes Limit.PlanSuspend = false
+
 -- whether an estate is refused for the number of its bytes: this is asked before the journal is opened, all else of an estate behind it
 abbrev pub is_of_bytes : EstateFault → Bool
-is_of_bytes (EstateFault.Limit Limit.Bytes count) = true
-is_of_bytes _ = false
+is_of_bytes (EstateFault.Limit what count) = are_bytes what
+is_of_bytes EstateFault.NotToml = false
+is_of_bytes (EstateFault.Key path) = false
+is_of_bytes (EstateFault.BadName path) = false
+is_of_bytes (EstateFault.Twice name) = false
+is_of_bytes (EstateFault.Unknown name) = false
+is_of_bytes (EstateFault.DeviceTwice name) = false
+is_of_bytes EstateFault.NoMemory = false
 
 -- What an answer tells of it. Words, requests, lines and the source are read before it; a damaged journal isn't opened. A journal's fault and want of memory come at any place. A failed write is no line's answer.
 abbrev pub TellsOpened : Answer → Option ℕ → Type 0

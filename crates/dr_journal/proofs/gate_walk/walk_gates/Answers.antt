@@ -24,6 +24,7 @@ loop-gate-init g c = (
   λ file here. here,
   refl,
   omega arith,
+  omega arith,
 )
 
 pub loop-gate-preserved : goal.loop-gate-preserved
@@ -48,6 +49,7 @@ loop-gate-preserved g c =
       λ file here. c.loop-gate.invariant.2 file (c.gate_at-in-Open.ensures.images file here),
       c.gate_at-in-Open.ensures.limit ∙ c.loop-gate.invariant.3,
       omega (arith, c.loop-gate.invariant.4, c.gate_at-in-Open.ensures.counts),
+      omega (arith, c.loop-gate.invariant.5, c.gate_at-in-Open.ensures.room),
     )
 
 pub returns-in-Closed : goal.returns-in-Closed
@@ -59,6 +61,7 @@ returns-in-Closed g c =
           let front = walk.front f now in
           (front.0, closes_there f c.args.end c.loop-gate.at c.loop-gate.gate front.0 front.1 (c.requires.ends f reads) (walk.told f now) c.in-Closed.is);
       inside = (walk.least, walk.inside);
+      room = omega (arith, c.loop-gate.invariant.5, c.gate_at.ensures.room);
       fault = tt;
       same = c.loop-gate.invariant.1 ∙ c.gate_at.ensures.same;
       images = λ file here. c.gate_at.ensures.images file (c.loop-gate.invariant.2 file here);
@@ -72,6 +75,7 @@ returns-in-Open-gate g c =
     record {
       closes = tt;
       inside = tt;
+      room = omega (arith, c.loop-gate.invariant.5, c.gate_at.ensures.room);
       fault = λ f reads.
           let now = c.gate_at.ensures.same ∙ reads in
           let front = walk.front f now in

@@ -1,4 +1,4 @@
-use Rattle.std.proofs.Common.{◌≡◌, ◌-◌, ◌≤◌, vec_len}
+use Rattle.std.proofs.Common.{◌≡◌, ◌-◌, ◌≤◌, max, vec_len}
 use Rattle.dr_disk.specs.Disk.{NoOther}
 use Rattle.dr_journal.proofs.OpeningWalk.{WalksTo}
 use Rattle.dr_journal.proofs.gate_walk.walk_gates.Given as goal
@@ -10,6 +10,7 @@ invariant-loop-gate g l =
     × NoOther (g.D.Disk.images l.initial.disk) (g.D.Disk.images l.disk)
     × (g.D.Disk.limit l.disk ≡ g.D.Disk.limit l.initial.disk)
     × (g.D.Disk.faults l.initial.disk ≤ g.D.Disk.faults l.disk)
+    × (vec_len l.window.bytes ≤ max (vec_len l.initial.window.bytes) 65536)
 
 abbrev pub decreases-loop-gate : goal.decreases-loop-gate
 decreases-loop-gate g l = l.end - l.at
