@@ -15,6 +15,7 @@ pub mod Outcomes
 pub mod Reach
 pub mod Meaning
 pub mod Next
+pub mod Reports
 pub mod Lawful
 pub mod Expected
 pub mod Fits

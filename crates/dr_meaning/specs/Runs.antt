@@ -106,9 +106,13 @@ run_named (Record.Finish run moment machines) = run
 run_named (Record.Estate bytes) = 0
 run_named (Record.Start row) = 0
 
+-- the run with one more record in its log
+abbrev pub with_record : Run → Record → Run
+with_record run item = record run { log = item ∷ run.log }
+
 -- the run with this record, if it belongs to it
 abbrev pub take_in : Record → Run → Run
-take_in item run = if number run == run_named item then record run { log = item ∷ run.log } else run
+take_in item run = if number run == run_named item then with_record run item else run
 
 -- the run, taken over by a Start that names it; the first such Start counts
 abbrev pub take_over : StartRow → Run → Run

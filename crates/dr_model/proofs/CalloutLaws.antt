@@ -10,13 +10,12 @@ use Rattle.dr_meaning.specs.declared.stage.Stage.{Stage}
 use Rattle.dr_meaning.specs.Worlds.{World}
 use Rattle.dr_meaning.specs.Stages.{stage_at}
 use Rattle.dr_meaning.specs.Visits.{Visit, visits, mark_done, excuse, open_stage, all}
-use Rattle.dr_meaning.specs.Runs.{Setting, Run, TakenOver, root, migration, stages_of, run_at, run_named, add_record}
+use Rattle.dr_meaning.specs.Runs.{Setting, Run, TakenOver, root, migration, stages_of, run_at, run_named, with_record, add_record}
 use Rattle.dr_meaning.specs.Lawful.{is_code, is_coded, is_answer, was_answered, token_of, HasCodes, MayCome, LawfulAfter}
 use Rattle.dr_meaning.specs.InOrder.{has_code}
 use Rattle.dr_meaning.specs.Sound.{IsKept}
 use Rattle.dr_meaning.proofs.Lists.{Each, each-map}
 use Rattle.dr_model.proofs.ChainLaws.{and_left, and_right}
-use Rattle.dr_model.proofs.ReachLaws.{with_record}
 use Rattle.dr_model.proofs.ExcuseLaws.{begun_head}
 use Rattle.dr_model.proofs.EachRun.{each-lawful}
 use Rattle.dr_model.proofs.OrderLaws.{or_right, or_either}

@@ -3,12 +3,11 @@ use Rattle.std.specs.Prelude.{◌≡◌, ℕ, ◌==◌, Bool, true, false, ◌&&
 use Rattle.std.proofs.Common.{refl, sym, ap, ◌∙◌}
 use Rattle.std.proofs.lemmas.Bool.{eqb-true}
 use Rattle.dr_meaning.specs.Types.{StartRow, Plan, Record}
-use Rattle.dr_meaning.specs.Runs.{Setting, Run, number, run_at, run_named, take_in, take_over, begin_run, add_record}
+use Rattle.dr_meaning.specs.Runs.{Setting, Run, number, run_at, run_named, with_record, take_in, take_over, begin_run, add_record}
 use Rattle.dr_meaning.specs.Lawful.{MayStart, MayCome, LawfulAfter}
 use Rattle.dr_meaning.proofs.Lists.{Each, each-both, each-map, each-of-map}
 use Rattle.dr_model.proofs.TableLaws.{IsTable, table_falls, table-add_record}
 use Rattle.dr_model.proofs.LogLaws.{only_run, some_run}
-use Rattle.dr_model.proofs.ReachLaws.{with_record}
 use Rattle.dr_model.proofs.ChainLaws.{fresh_run}
 
 module _ (setting : Setting) (I : Run → Type 0) (over : (r : Run) (n : ℕ) → I r → I (record r { by = n })) (begins : (runs : List Run) (row : StartRow) (plan : Plan) → MayStart setting runs row plan → I (fresh_run setting runs row plan)) (goes : (runs : List Run) (r : Run) (item : Record) → MayCome setting runs item → run_at (run_named item) runs ≡ Some r → I r → I (with_record r item)) where

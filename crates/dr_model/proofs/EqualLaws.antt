@@ -1,8 +1,8 @@
 -- What a run means, it may have made: with FinishLaws the two are equal, but for left machines at the new side.
-use Rattle.std.specs.Prelude.{◌++◌, length, ◌+◌, ◌<◌, find, ◌≡◌, ◌≢◌, ℕ, ◌⊎◌, Bool, true, false, not, ◌&&◌, ◌||◌, List, [], ◌∷◌, Some, IsTrue, cond}
+use Rattle.std.specs.Prelude.{◌++◌, length, ◌+◌, ◌<◌, ◌≤◌, find, ◌≡◌, ◌≢◌, ℕ, ◌⊎◌, Bool, true, false, not, ◌&&◌, ◌||◌, List, [], ◌∷◌, Some, IsTrue, cond}
 use Rattle.std.specs.Bool.{MatchBool}
 use Rattle.std.proofs.Common.{refl, sym, ap, ◌∙◌, inl, inr, subst, arith}
-use Rattle.std.proofs.lemmas.Bool.{eq-eqb, ne_eqb, cases_eq}
+use Rattle.std.proofs.lemmas.Bool.{eq-eqb, ne_eqb, cases_eq, cases_lt}
 use Rattle.dr_meaning.specs.Types.{Side, Op, Placed, Post, PlanMachine}
 use Rattle.dr_meaning.specs.declared.stage.StageKind.{StageKind}
 use Rattle.dr_meaning.specs.declared.stage.Stage.{Stage}
@@ -18,7 +18,7 @@ use Rattle.dr_meaning.specs.Reach.{Through, is_complete, FrameStep, ReachFrame, 
 use Rattle.dr_meaning.specs.Meaning.{is_wave_of, same_kind, is_left, is_of_kind, last_visit_of, is_prepare_skipped, FrameMeaning, MeansFrame, OldPostMeaning, NewPostMeaning, MeansPost}
 use Rattle.dr_meaning.specs.Lawful.{MayFinish}
 use Rattle.dr_meaning.proofs.Lists.{Each, all_each, each-map, Some_of, some_of-map}
-use Rattle.dr_model.proofs.StageLaws.{IsCallout, IsWave, wind_down-kind, each-start_up, each-start_up_op, IsMachineOf, stage_from-each}
+use Rattle.dr_model.proofs.StageLaws.{IsCallout, IsWave, wind_down-kind, each-start_up, each-start_up_op, IsMachineOf, stage_from-each, counted}
 use Rattle.dr_model.proofs.ThroughLaws.{Keeps, through_keeps, Holds, Makes, through_from}
 use Rattle.dr_model.proofs.WalkedLaws.{post_made}
 use Rattle.dr_model.proofs.LogLaws.{IsGoneThrough}
@@ -167,6 +167,18 @@ module _ (run : Run) (t : IsThrough run) (list : stages_of run ≡ recovery run.
 
 abbrev pub IsSingle : List Stage → (Stage → Bool) → Type 0
 IsSingle stages p = (i j : ℕ) → p (stage_at stages i) ≡ true → p (stage_at stages j) ≡ true → i ≡ j
+
+-- it is, where no two numbers have stages that pass
+pub single_if : (stages : List Stage) (p : Stage → Bool) → p no_stage ≡ false → ((i j : ℕ) → 1 ≤ i → i < j → p (stage_at stages i) ≡ true → p (stage_at stages j) ≡ true → ⊥) → IsSingle stages p
+single_if stages p none apart i j a b = go (cases_lt i j) (cases_eq i j)
+  where
+    from_1 : (k : ℕ) → p (stage_at stages k) ≡ true → 1 ≤ k
+    from_1 k passes = counted (λ s. p s ≡ true) (λ ends. let wrong : true ≡ false = sym ends ∙ none in cc) 1 stages k passes
+
+    go : (i < j) ⊎ (j ≤ i) → (i ≡ j) ⊎ (i ≡ j → ⊥) → i ≡ j
+    go either (inl same) = same
+    go (inl lt) (inr ne) = absurd (apart i j (from_1 i a) lt a b)
+    go (inr le) (inr ne) = absurd (apart j i (from_1 j b) (omega arith) b a)
 
 -- a visit of it is the last visit of it
 once : (stages : List Stage) (p : Stage → Bool) → IsSingle stages p → ((s : Stage) → p s ≡ true → s.kind ≢ StageKind.Start) → (vs : List Visit) → IsAhead stages vs → Each (λ v. p (stage_at stages v.stage) ≡ true → find (λ u. p (stage_at stages u.stage)) vs ≡ Some v) vs

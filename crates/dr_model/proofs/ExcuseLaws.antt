@@ -6,10 +6,9 @@ use Rattle.dr_meaning.specs.declared.stage.StageKind.{StageKind}
 use Rattle.dr_meaning.specs.declared.stage.Stage.{Stage}
 use Rattle.dr_meaning.specs.Stages.{stage_at}
 use Rattle.dr_meaning.specs.Visits.{Visit, visits, mark_done, excuse, open_stage}
-use Rattle.dr_meaning.specs.Runs.{Setting, Run, stages_of, run_at, run_named, add_record}
+use Rattle.dr_meaning.specs.Runs.{Setting, Run, stages_of, run_at, run_named, with_record, add_record}
 use Rattle.dr_meaning.specs.Lawful.{MaySkipIn, MayCome, LawfulAfter}
 use Rattle.dr_meaning.proofs.Lists.{Each}
-use Rattle.dr_model.proofs.ReachLaws.{with_record}
 use Rattle.dr_model.proofs.EachRun.{each-lawful}
 
 -- a stage that is begun stands at the head of the visits

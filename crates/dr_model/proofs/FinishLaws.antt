@@ -7,14 +7,13 @@ use Rattle.dr_meaning.specs.Types.{Side, Op, Placed, Post, PlanMachine, Record}
 use Rattle.dr_outside.specs.Pairs.{Frame}
 use Rattle.dr_base.specs.Sides.{other, same_side}
 use Rattle.dr_meaning.specs.Stages.{stages}
-use Rattle.dr_meaning.specs.Runs.{Setting, Run, number, op, new, holds, is_finished, is_open, last_of_group, run_at, take_in, add_record}
+use Rattle.dr_meaning.specs.Runs.{Setting, Run, number, op, new, holds, is_finished, is_open, last_of_group, run_at, with_record, take_in, add_record}
 use Rattle.dr_meaning.specs.Reach.{ReachFrame, ReachPost}
 use Rattle.dr_meaning.specs.Meaning.{FrameMeaning, MeansFrame, OldPostMeaning, NewPostMeaning, MeansPost}
 use Rattle.dr_meaning.specs.Expected.{wanted, LeavesFrame, ExpectedFrame, ExpectedPost}
 use Rattle.dr_meaning.specs.Lawful.{MayFinish, MayCome}
 use Rattle.dr_meaning.proofs.Lists.{Each, each-find, each-map, find-passes}
 use Rattle.dr_model.proofs.StageLaws.{IsMachineOf}
-use Rattle.dr_model.proofs.ReachLaws.{with_record}
 use Rattle.dr_model.proofs.ExpectedLaws.{after-take_in, after-take_in_elsewhere, frame_meaning-finish}
 use Rattle.dr_model.proofs.TableLaws.{IsTable, table_falls, open_is_last_of}
 use Rattle.dr_model.proofs.LogLaws.{IsGoneThrough, head_done, finish_walked, only_run, unfinished}

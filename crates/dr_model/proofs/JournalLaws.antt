@@ -8,14 +8,14 @@ use Rattle.dr_outside.specs.Pairs.{Frame}
 use Rattle.dr_base.specs.Lists.{has}
 use Rattle.dr_meaning.specs.Stages.{stage_at}
 use Rattle.dr_meaning.specs.Visits.{Visit, visits, excuse, open_stage, all}
-use Rattle.dr_meaning.specs.Runs.{Setting, Run, number, stages_of, holds, is_finish, is_finished, is_open, last_of_group, run_at, run_named, take_in}
+use Rattle.dr_meaning.specs.Runs.{Setting, Run, number, stages_of, holds, is_finish, is_finished, is_open, last_of_group, run_at, run_named, with_record, take_in}
 use Rattle.dr_meaning.specs.Outcomes.{IsAsWanted}
 use Rattle.dr_meaning.specs.Reach.{Through, FrameStep, ReachFrame, works, PostStep, ReachPost}
 use Rattle.dr_meaning.specs.Expected.{LeavesFrame, LeavesPost, wanted, ExpectedFrame, ExpectedPost}
 use Rattle.dr_meaning.specs.Lawful.{MayCome}
 pub use Rattle.dr_meaning.specs.Backing.{IsPlain}
 use Rattle.dr_meaning.proofs.Lists.{Each, each-map, find-passes}
-use Rattle.dr_model.proofs.ReachLaws.{with_record, frame_begin, post_begin, kind_at}
+use Rattle.dr_model.proofs.ReachLaws.{frame_begin, post_begin, kind_at}
 use Rattle.dr_model.proofs.ExpectedLaws.{after-take_in, after-take_in_elsewhere}
 use Rattle.dr_model.proofs.TableLaws.{table_falls, open_is_last_of}
 use Rattle.dr_model.proofs.LogLaws.{only_run, unfinished}

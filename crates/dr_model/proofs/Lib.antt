@@ -1,4 +1,5 @@
 pub mod StageLaws
+pub mod LeastLaws
 pub mod ThroughLaws
 pub mod WalkedLaws
 pub mod OutcomeLaws
@@ -31,6 +32,7 @@ pub mod StageOrder
 pub mod WaveOrder
 pub mod EqualLaws
 pub mod StopWaves
+pub mod StartWaves
 pub mod MeaningLaws
 pub mod StartLaws
 pub mod JournalLaws

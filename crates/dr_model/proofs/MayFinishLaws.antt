@@ -1,6 +1,6 @@
 -- In a lawful journal a run whose stages are all done may be finished.
 use Rattle.std.specs.Prelude.{◌≡◌, ◌≢◌, ℕ, ◌+◌, ◌<◌, ◌≤◌, ◌==◌, ◌⊎◌, Bool, true, false, List, [], ◌∷◌, Option, Some, None, Contains, length, map, filter, find, fold}
-use Rattle.std.proofs.Common.{refl, sym, ◌∙◌, inl, inr, subst, arith}
+use Rattle.std.proofs.Common.{refl, sym, ◌∙◌, inl, inr, subst}
 use Rattle.std.proofs.lemmas.Bool.{eq-eqb}
 use Rattle.std.proofs.lemmas.List.Elements.{All-contains, filter_passes}
 use Rattle.std.proofs.lemmas.List.Kept.{IsStrictlyIncreasing-filter}
@@ -12,43 +12,35 @@ use Rattle.dr_meaning.specs.declared.stage.StageKind.{StageKind}
 use Rattle.dr_meaning.specs.declared.stage.Stage.{Stage}
 use Rattle.dr_base.specs.Lists.{has}
 use Rattle.dr_meaning.specs.Visits.{Visit, visits, mark_done, excuse, begun, is_visit_done, is_done, is_excused}
-use Rattle.dr_meaning.specs.Runs.{Setting, Run, number, op, stages_of, run_at, run_named, add_record, runs_of}
-use Rattle.dr_meaning.specs.Meaning.{same_kind, is_wave_of, is_left}
+use Rattle.dr_meaning.specs.Runs.{Setting, Run, number, op, stages_of, run_at, run_named, with_record, add_record, runs_of}
+use Rattle.dr_meaning.specs.Meaning.{is_wave_of, is_left}
 use Rattle.dr_meaning.specs.Next.{least_stage, is_worked_again, least_undone}
+use Rattle.dr_meaning.specs.Reports.{left_machines}
 use Rattle.dr_meaning.specs.Lawful.{MayFinish, MayCome, LawfulAfter}
 use Rattle.dr_meaning.specs.Backing.{IsRegularPlan, HasRegularPlans}
 use Rattle.dr_meaning.proofs.Lists.{Each, each-find, find-passes}
 use Rattle.dr_meaning.proofs.Elements.{contains-has, has-contains, contains-filter}
-use Rattle.dr_model.proofs.ReachLaws.{with_record}
+use Rattle.dr_model.proofs.LeastLaws.{least_within}
 use Rattle.dr_model.proofs.LogLaws.{IsGoneThrough}
-use Rattle.dr_model.proofs.ChainLaws.{HasPlan, and_left, and_right}
-use Rattle.dr_model.proofs.NumberLaws.{kind-same}
+use Rattle.dr_model.proofs.ChainLaws.{HasPlan}
 use Rattle.dr_model.proofs.EachRun.{each-lawful}
 use Rattle.dr_model.proofs.ExcuseLaws.{begun_head}
 use Rattle.dr_model.proofs.SequenceLaws.{begins_at}
 use Rattle.dr_model.proofs.SoundAppend.{well_of, gone_of}
-use Rattle.dr_model.proofs.WaveEntries.{in_wave, starts_up}
+use Rattle.dr_model.proofs.WaveEntries.{wave_parts, in_wave, starts_up}
 use Rattle.dr_model.proofs.WalkEnds.{none_undone}
 use Rattle.dr_model.proofs.MayRunLaws.{none_left}
 
 -- Each visit is of a stage
 
-abbrev IsStage : List Stage → ℕ → Type 0
+abbrev pub IsStage : List Stage → ℕ → Type 0
 IsStage stages j = (1 ≤ j) × (j < 1 + length stages)
 
-abbrev OfStages : List Stage → List Visit → Type 0
+abbrev pub OfStages : List Stage → List Visit → Type 0
 OfStages stages vs = Each (λ v. IsStage stages v.stage) vs
 
-record VisitsStages (r : Run) : Type 0 where
-  each : OfStages (stages_of r) (visits r.log)
-
-least_within : (test : ℕ → Stage → Bool) (n : ℕ) (stages : List Stage) (j : ℕ) → least_stage test n stages ≡ Some j → (n ≤ j) × (j < n + length stages)
-least_within test n [] j e = absurd cc
-least_within test n (s ∷ stages) j e = go (test n s) refl (least_within test (n + 1) stages j)
-  where
-    go : (b : Bool) → test n s ≡ b → (least_stage test (n + 1) stages ≡ Some j → (n + 1 ≤ j) × (j < n + 1 + length stages)) → (n ≤ j) × (j < n + length (s ∷ stages))
-    go true own rest = let same : Some n ≡ Some j = rw own at e in let is : n ≡ j = cc in (omega (arith, is), omega (arith, is))
-    go false own rest = let (above, below) = rest (rw own at e) in (omega (arith, above), omega (arith, below))
+pub record VisitsStages (r : Run) : Type 0 where
+  pub each : OfStages (stages_of r) (visits r.log)
 
 of_mark : (stages : List Stage) (vs : List Visit) → OfStages stages vs → OfStages stages (mark_done vs)
 of_mark stages [] h = h
@@ -74,7 +66,7 @@ visits-record setting runs r (Record.Answer n step text) may at_n h = record { e
 visits-record setting runs r (Record.Code n token m code) may at_n h = record { each = h.each }
 visits-record setting runs r (Record.Finish n moment ms) may at_n h = record { each = h.each }
 
-visits-lawful : (setting : Setting) (records : List Record) → LawfulAfter setting [] records → Each VisitsStages (fold (add_record setting) [] records)
+pub visits-lawful : (setting : Setting) (records : List Record) → LawfulAfter setting [] records → Each VisitsStages (fold (add_record setting) [] records)
 visits-lawful setting records lawful =
     each-lawful setting VisitsStages (λ r n h. record { each = h.each }) (λ runs row plan may. record { each = tt }) (visits-record setting) [] records lawful tt tt
 
@@ -92,7 +84,7 @@ none_open r within none = go (begun r.log) refl
     go (Some j) e =
         let (v, earlier, shape, is, undone) = begun_head (visits r.log) j e in
         let its : IsStage (stages_of r) v.stage = (subst (OfStages (stages_of r)) shape within.each).0 in
-        let done : is_done r.log v.stage ≡ true = none_undone (is_done r.log) 1 (stages_of r) none v.stage its.0 its.1 in
+        let done : is_done r.log v.stage ≡ true = none_undone r none v.stage its.0 its.1 in
         let head : is_done r.log v.stage ≡ v.done = last_done v earlier (visits r.log) shape in
         absurd (let wrong : true ≡ false = sym done ∙ head ∙ undone in cc)
 
@@ -120,39 +112,39 @@ module _ (r : Run) where
   abbrev numbers : List ℕ
   numbers = map (λ (x : PlanMachine). x.machine) r.plan.machines
 
-  abbrev left_machines : List ℕ
-  left_machines = filter (is_left r) numbers
-
   -- a machine that is left is one of the plan
-  left_planned : (m : ℕ) → is_left r m ≡ true → Contains numbers m
+  pub left_planned : (m : ℕ) → is_left r m ≡ true → Contains numbers m
   left_planned m left = go (find (λ v. is_wave_of StageKind.Start m (stage_of r v)) (visits r.log)) refl left
     where
       go : (o : Option Visit) → find (λ v. is_wave_of StageKind.Start m (stage_of r v)) (visits r.log) ≡ o → is_excused m o ≡ true → Contains numbers m
       go None e h = absurd cc
       go (Some v) e h =
           let wave : is_wave_of StageKind.Start m (stage_of r v) ≡ true = find-passes (λ v. is_wave_of StageKind.Start m (stage_of r v)) (visits r.log) v e in
-          let kind : (stage_of r v).kind ≡ StageKind.Start = kind-same _ _ (and_left _ (has (stage_of r v).machines m) wave) in
-          let listed : has (stage_of r v).machines m ≡ true = and_right (same_kind (stage_of r v).kind StageKind.Start) _ wave in
+          let (kind, listed) = wave_parts StageKind.Start m (stage_of r v) wave in
           let at : IsAt r.plan (stage_of r v).priority (stage_of r v).depth m = in_wave r.plan (op r) r.start.forced (starts_up r.plan (op r) r.start.forced v.stage m kind listed) v.stage kind m listed in
           subst (Contains numbers) at.number (mapped_to (λ (x : PlanMachine). x.machine) r.plan.machines at.entry at.listed)
 
+  -- the machines that are left are named
+  pub left_named : (m : ℕ) → has (left_machines r) m ≡ is_left r m
+  left_named = has-filter (is_left r) numbers left_planned
+
   module _ (gone : IsGoneThrough r) where
-    none_but_failover : (o : Op) → op r ≡ o → (o ≡ Op.Failover → ⊥) → left_machines ≡ []
+    none_but_failover : (o : Op) → op r ≡ o → (o ≡ Op.Failover → ⊥) → left_machines r ≡ []
     none_but_failover o e ne = filter_none (is_left r) numbers (none_left r (gone.none_excused (λ f. ne (sym e ∙ f))))
 
-    only_failover : (o : Op) → op r ≡ o → left_machines ≢ [] → op r ≡ Op.Failover
+    only_failover : (o : Op) → op r ≡ o → left_machines r ≢ [] → op r ≡ Op.Failover
     only_failover Op.Failover e some = e
     only_failover Op.Testing e some = absurd (some (none_but_failover Op.Testing e (λ f. cc)))
     only_failover Op.Cleanup e some = absurd (some (none_but_failover Op.Cleanup e (λ f. cc)))
     only_failover Op.Migrate e some = absurd (some (none_but_failover Op.Migrate e (λ f. cc)))
     only_failover Op.Reprotect e some = absurd (some (none_but_failover Op.Reprotect e (λ f. cc)))
 
-    may_be_finished : (estate : Estate) → IsRegularPlan estate r.plan → VisitsStages r → least_undone r ≡ None → MayFinish r left_machines
+    may_be_finished : (estate : Estate) → IsRegularPlan estate r.plan → VisitsStages r → least_undone r ≡ None → MayFinish r (left_machines r)
     may_be_finished estate regular within none = record {
       none_begun = none_open r within none;
       all_done = none;
       ascending = IsStrictlyIncreasing-filter (is_left r) numbers regular.ordered.ascending;
-      left = has-filter (is_left r) numbers left_planned;
+      left = left_named;
       closed = only_failover (op r) refl;
     }
 

@@ -38,7 +38,7 @@ use Rattle.dr_model.proofs.SoundAppend.{well_of}
 use Rattle.dr_model.proofs.Regular.{entry_of}
 use Rattle.dr_model.proofs.CallSound.{pair_of_group}
 use Rattle.dr_model.proofs.StepOrder.{EachFrom, IsBefore, steps-listed, step_number}
-use Rattle.dr_model.proofs.WaveEntries.{one_entry, in_wave, starts_up}
+use Rattle.dr_model.proofs.WaveEntries.{one_place, in_wave, starts_up}
 use Rattle.dr_model.proofs.CalloutLaws.{IsCodedAt, IsAnsweredAt, TakesSteps, steps-lawful, coded_kept}
 
 -- but for a failover, no machine is left
@@ -96,9 +96,8 @@ module _ (setting : Setting) (records : List Record) (lawful : LawfulAfter setti
   -- the place of a machine of the wave
   place : (x : PlanMachine) → Contains run.plan.machines x → has (stage_of run v).machines x.machine ≡ true → (x.priority ≡ (stage_of run v).priority) × (x.depth ≡ (stage_of run v).depth)
   place x of_plan its =
-      let it = in_wave run.plan (op run) run.start.forced up v.stage starts x.machine its in
-      let is : it.entry ≡ x = one_entry run.plan.machines regular.ordered.ascending it.entry x it.listed of_plan it.number in
-      (ap (λ (y : PlanMachine). y.priority) (sym is) ∙ it.same_priority, ap (λ (y : PlanMachine). y.depth) (sym is) ∙ it.same_depth)
+      one_place run.plan regular.ordered x.priority x.depth (stage_of run v).priority (stage_of run v).depth x.machine (record { entry = x; listed = of_plan; number = refl; same_priority = refl; same_depth = refl })
+      (in_wave run.plan (op run) run.start.forced up v.stage starts x.machine its)
 
   here : (m.priority ≡ (stage_of run v).priority) × (m.depth ≡ (stage_of run v).depth)
   here = place m listed worked

@@ -9,13 +9,13 @@ use Rattle.dr_outside.specs.BySide.{at}
 use Rattle.dr_base.specs.Lists.{has}
 use Rattle.dr_meaning.specs.Stages.{stage_at}
 use Rattle.dr_meaning.specs.Visits.{Visit, visits, mark_done, excuse, all}
-use Rattle.dr_meaning.specs.Runs.{Run, number, op, stages_of, holds, last_of_group, run_at, run_named, take_in}
+use Rattle.dr_meaning.specs.Runs.{Run, number, op, stages_of, holds, last_of_group, run_at, run_named, with_record, take_in}
 use Rattle.dr_meaning.specs.Meaning.{same_kind, is_of_kind}
 use Rattle.dr_meaning.specs.Fits.{pair_row, is_recovery, is_visit_whole, is_done_whole, held, IsReplicatedTest, HoldsAll, IsSplitIn, FitsWrites, FitsNumbers, splits}
 pub use Rattle.dr_meaning.specs.Backing.{ShowsDone}
 use Rattle.dr_meaning.proofs.Lists.{each-find}
 use Rattle.dr_model.proofs.LogLaws.{only_run}
-use Rattle.dr_model.proofs.ReachLaws.{with_record, kind_at}
+use Rattle.dr_model.proofs.ReachLaws.{kind_at}
 use Rattle.dr_model.proofs.ExpectedLaws.{Falls, holds-take_in}
 
 -- What is done for all pairs, after one more record

@@ -5,13 +5,12 @@ use Rattle.std.proofs.Common.{refl, sym, ap, ◌∙◌, inl, inr, subst}
 use Rattle.dr_meaning.specs.Types.{Callout, Step, PlanMachine, Record, Kept}
 use Rattle.dr_meaning.specs.Worlds.{World}
 use Rattle.dr_outside.specs.BySide.{at}
-use Rattle.dr_meaning.specs.Runs.{Run, migration, number, op, new, holds, last_of_group, run_named, take_in}
+use Rattle.dr_meaning.specs.Runs.{Run, migration, number, op, new, holds, last_of_group, run_named, with_record, take_in}
 use Rattle.dr_meaning.specs.Lawful.{is_answer, was_answered, is_answered}
 use Rattle.dr_meaning.specs.StartUp.{is_started}
 use Rattle.dr_meaning.specs.InOrder.{is_ready_at_new, is_aside, is_start_up, StepTaken, StepsTaken, MayRun, InOrder}
 use Rattle.dr_meaning.proofs.Lists.{Each, each-map}
 use Rattle.dr_model.proofs.TableLaws.{IsTable, start_take_in}
-use Rattle.dr_model.proofs.ReachLaws.{with_record}
 use Rattle.dr_model.proofs.ExpectedLaws.{holds-take_in}
 use Rattle.dr_model.proofs.ChainLaws.{same_number}
 use Rattle.dr_model.proofs.NumberLaws.{find-map}

@@ -9,12 +9,11 @@ use Rattle.dr_meaning.specs.Worlds.{World}
 use Rattle.dr_base.specs.Sides.{other, same_side}
 use Rattle.dr_outside.specs.BySide.{at}
 use Rattle.dr_base.specs.Lists.{has}
-use Rattle.dr_meaning.specs.Runs.{is_open, group_state, Setting, Run, number, op, new, root, migration_of, holds, last_of_group, run_at, run_named, take_over, as_taken, add_record}
+use Rattle.dr_meaning.specs.Runs.{is_open, group_state, Setting, Run, number, op, new, root, migration_of, holds, last_of_group, run_at, run_named, with_record, take_over, as_taken, add_record}
 use Rattle.dr_meaning.specs.Lawful.{StartsFrom, MayStart, MayCome, LawfulAfter, takes_over, is_taken_over, is_answer, was_answered, is_answered, tokens_from}
 use Rattle.dr_meaning.specs.StartUp.{is_started}
 use Rattle.dr_meaning.specs.InOrder.{IsPairOfMachine, is_ready, is_ready_at_new, is_aside, is_start_up, has_code, IsServing, StepTaken, StepsTaken, MayRun, InOrder}
 use Rattle.dr_meaning.proofs.Lists.{Each, each-map, each-find, find-passes, find-filter}
-use Rattle.dr_model.proofs.ReachLaws.{with_record}
 use Rattle.dr_model.proofs.TableLaws.{start_take_over}
 use Rattle.dr_meaning.specs.Expected.{ExpectedPost}
 use Rattle.dr_meaning.specs.Phases.{IsAtRest, PostAtRest}

@@ -7,7 +7,7 @@ use Rattle.dr_outside.specs.Pairs.{Frame}
 use Rattle.dr_base.specs.Lists.{has}
 use Rattle.dr_meaning.specs.Stages.{stage_at}
 use Rattle.dr_meaning.specs.Visits.{Visit, visits, excuse, all}
-use Rattle.dr_meaning.specs.Runs.{Run, stages_of}
+use Rattle.dr_meaning.specs.Runs.{Run, stages_of, with_record}
 use Rattle.dr_meaning.specs.Outcomes.{IsAsWanted, made_frame, FrameOutcome, made_post, PostOutcome}
 use Rattle.dr_meaning.specs.Reach.{Through, FrameStep, ReachFrame, works, PostStep}
 use Rattle.dr_model.proofs.OutcomeLaws.{made_frame-outcome, frame_outcome_trans, made_post-outcome, post_outcome_refl, post_outcome_trans}
@@ -76,9 +76,6 @@ post_done run machine side w stage excused vs x y (mid, reach, out) h = (mid, re
     go false t = rw t (rw t at out)
 
 -- By records: each at the end of a run's log.
-
-abbrev pub with_record : Run → Record → Run
-with_record run item = record run { log = item ∷ run.log }
 
 pub reach_frame-begin : (run : Run) (n stage : ℕ) (x y : Frame) → ReachFrame run x y → ReachFrame (with_record run (Record.Begin n stage)) x y
 reach_frame-begin run n stage x y reach = frame_begin run stage (visits run.log) x y reach

@@ -9,7 +9,7 @@ use Rattle.dr_meaning.specs.declared.stage.Stage.{Stage}
 use Rattle.dr_base.specs.Lists.{has}
 use Rattle.dr_meaning.specs.Stages.{stage_at}
 use Rattle.dr_meaning.specs.Visits.{Visit, visits, mark_done, excuse, open_stage, is_visit_done, is_done}
-use Rattle.dr_meaning.specs.Runs.{Setting, Run, op, new, stages_of, run_at, run_named, add_record}
+use Rattle.dr_meaning.specs.Runs.{Setting, Run, op, new, stages_of, run_at, run_named, with_record, add_record}
 use Rattle.dr_meaning.specs.Outcomes.{PostOutcome}
 use Rattle.dr_meaning.specs.Reach.{works, PostStep, ReachPost, stage_of}
 use Rattle.dr_meaning.specs.Lawful.{MaySkipIn, MayCome, LawfulAfter}
@@ -19,7 +19,6 @@ use Rattle.dr_model.proofs.StageLaws.{stage_from-each, each-start_up_op}
 use Rattle.dr_model.proofs.ThroughLaws.{Holds, Makes, through_from, some_of-find}
 use Rattle.dr_model.proofs.WholeTest.{same_side_itself}
 use Rattle.dr_model.proofs.WholeMigrate.{side_of_other}
-use Rattle.dr_model.proofs.ReachLaws.{with_record}
 use Rattle.dr_model.proofs.PostPhase.{StageHolds, post_step-holds, callout_works, elsewhere}
 use Rattle.dr_model.proofs.ExcuseLaws.{begun_head}
 use Rattle.dr_model.proofs.EachRun.{each-lawful}

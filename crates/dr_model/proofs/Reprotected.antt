@@ -10,7 +10,7 @@ use Rattle.dr_meaning.specs.declared.stage.StageKind.{StageKind}
 use Rattle.dr_meaning.specs.Worlds.{World}
 use Rattle.dr_meaning.specs.Stages.{stages, stage_at, wind_down}
 use Rattle.dr_meaning.specs.Visits.{visits}
-use Rattle.dr_meaning.specs.Runs.{Setting, Run, number, op, holds, stages_of, is_open, run_at, last_of_group, take_in}
+use Rattle.dr_meaning.specs.Runs.{Setting, Run, number, op, holds, stages_of, is_open, run_at, last_of_group, with_record, take_in}
 use Rattle.dr_meaning.specs.Meaning.{is_of_kind}
 use Rattle.dr_meaning.specs.Lawful.{MayFinish, MayCome}
 use Rattle.dr_meaning.specs.Fits.{pair_row, is_visit_whole, is_done_whole, ReadsAtMost, FitsWrites}
@@ -24,7 +24,6 @@ use Rattle.dr_model.proofs.WalkedLaws.{IsWhole, IsWalked}
 use Rattle.dr_model.proofs.LogLaws.{IsGoneThrough, gone-lawful, finish_walked}
 use Rattle.dr_model.proofs.TableLaws.{IsTable, open_is_last}
 use Rattle.dr_model.proofs.ExpectedLaws.{take_in_own, holds-take_in}
-use Rattle.dr_model.proofs.ReachLaws.{with_record}
 use Rattle.dr_model.proofs.NumberLaws.{find-map}
 use Rattle.dr_model.proofs.ChainLaws.{open_run, same_number, and_left, and_right}
 use Rattle.dr_model.proofs.Reversed.{may_known, reversed_on}

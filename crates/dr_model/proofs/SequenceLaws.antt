@@ -1,52 +1,26 @@
 -- Stages come in order: a stage that starts no machines comes after lower ones alone.
-use Rattle.std.specs.Prelude.{◌≡◌, ◌≢◌, ℕ, ◌+◌, ◌<◌, ◌≤◌, ◌==◌, ◌⊎◌, Bool, true, false, not, ◌&&◌, List, [], ◌∷◌, Option, Some, None, cond, find, fold}
+use Rattle.std.specs.Prelude.{◌≡◌, ◌≢◌, ℕ, ◌<◌, ◌≤◌, ◌==◌, ◌⊎◌, Bool, true, false, not, ◌&&◌, List, [], ◌∷◌, Option, Some, None, cond, find, fold}
 use Rattle.std.specs.List.{list_any}
 use Rattle.std.specs.Option.{option_or}
-use Rattle.std.proofs.Common.{refl, sym, ◌∙◌, inl, inr, arith, subst}
-use Rattle.std.proofs.lemmas.Bool.{eq-eqb, ne_eqb, cases_eq, cases_lt}
+use Rattle.std.proofs.Common.{refl, sym, ◌∙◌, inl, inr, arith}
+use Rattle.std.proofs.lemmas.Bool.{eq-eqb, cases_eq, cases_lt, not-false, not-true}
 use Rattle.dr_meaning.specs.Types.{Record}
 use Rattle.dr_meaning.specs.declared.stage.StageKind.{StageKind}
 use Rattle.dr_meaning.specs.declared.stage.Stage.{Stage}
-use Rattle.dr_meaning.specs.Stages.{stage_from, stage_at}
+use Rattle.dr_meaning.specs.Stages.{stage_at}
 use Rattle.dr_meaning.specs.Visits.{Visit, visits, mark_done, excuse, begun, is_done, is_visit_done}
-use Rattle.dr_meaning.specs.Runs.{Setting, Run, stages_of, run_at, run_named, add_record}
+use Rattle.dr_meaning.specs.Runs.{Setting, Run, stages_of, run_at, run_named, with_record, add_record}
 use Rattle.dr_meaning.specs.Meaning.{same_kind}
 use Rattle.dr_meaning.specs.Next.{is_attempt, least_stage, is_worked_again, least_undone}
 use Rattle.dr_meaning.specs.Lawful.{MayBegin, MayCome, LawfulAfter}
 use Rattle.dr_meaning.proofs.Lists.{Each, Some_of, each-map}
+use Rattle.dr_model.proofs.LeastLaws.{least_passes, least_fails}
 use Rattle.dr_model.proofs.ThroughLaws.{visited}
-use Rattle.dr_model.proofs.ReachLaws.{with_record, begun_visit}
+use Rattle.dr_model.proofs.ReachLaws.{begun_visit}
 use Rattle.dr_model.proofs.LogLaws.{IsGoneThrough, head_done, gone-record}
 use Rattle.dr_model.proofs.ChainLaws.{and_left, and_right}
 use Rattle.dr_model.proofs.NumberLaws.{kind-same}
 use Rattle.dr_model.proofs.EachRun.{each-lawful}
-
--- The least stage that passes
-
-least_passes : (test : ℕ → Stage → Bool) (n : ℕ) (stages : List Stage) (j : ℕ) → least_stage test n stages ≡ Some j → (n ≤ j) × (test j (stage_from n stages j) ≡ true)
-least_passes test n [] j e = absurd cc
-least_passes test n (s ∷ stages) j e = go (test n s) refl (least_passes test (n + 1) stages j)
-  where
-    go : (b : Bool) → test n s ≡ b → (least_stage test (n + 1) stages ≡ Some j → (n + 1 ≤ j) × (test j (stage_from (n + 1) stages j) ≡ true)) → (n ≤ j) × (test j (stage_from n (s ∷ stages) j) ≡ true)
-    go true own rest =
-        let same : Some n ≡ Some j = rw own at e in
-        let is : n ≡ j = cc in
-        (omega (arith, is), rw (eq-eqb j n (sym is)) (subst (λ k. test k s ≡ true) is own))
-    go false own rest =
-        let (above, passes) = rest (rw own at e) in
-        (omega arith, rw (ne_eqb j n (λ same. omega arith)) passes)
-
-least_fails : (test : ℕ → Bool) (n : ℕ) (stages : List Stage) (j : ℕ) → least_stage (λ k s. test k) n stages ≡ Some j → (i : ℕ) → n ≤ i → i < j → test i ≡ false
-least_fails test n [] j e i above below = absurd cc
-least_fails test n (s ∷ stages) j e i above below = go (test n) refl (least_fails test (n + 1) stages j)
-  where
-    at_n : (n ≡ i) ⊎ (n ≡ i → ⊥) → test n ≡ false → (least_stage (λ k s. test k) (n + 1) stages ≡ Some j → (i : ℕ) → n + 1 ≤ i → i < j → test i ≡ false) → test i ≡ false
-    at_n (inl same) own rest = subst (λ k. test k ≡ false) same own
-    at_n (inr ne) own rest = rest (rw own at e) i (omega arith) below
-
-    go : (b : Bool) → test n ≡ b → (least_stage (λ k s. test k) (n + 1) stages ≡ Some j → (i : ℕ) → n + 1 ≤ i → i < j → test i ≡ false) → test i ≡ false
-    go true own rest = let same : Some n ≡ Some j = rw own at e in let is : n ≡ j = cc in absurd (omega (arith, is))
-    go false own rest = at_n (cases_eq n i) own rest
 
 -- The order of visits
 
@@ -76,14 +50,6 @@ done_if_visited j (v ∷ vs) d some = go (v.stage == j) refl some (done_if_visit
     go true e s rest = rw e d.0
     go false e (inl own) rest = absurd (let yes : v.stage == j ≡ true = eq-eqb v.stage j own in let wrong : true ≡ false = sym yes ∙ e in cc)
     go false e (inr later) rest = rw e (rest later)
-
-not_false : (b : Bool) → not b ≡ false → b ≡ true
-not_false true e = refl
-not_false false e = absurd cc
-
-not_is_true : (b : Bool) → not b ≡ true → b ≡ false
-not_is_true true e = absurd cc
-not_is_true false e = refl
 
 -- the visit of a stage, among filled ones
 filled_at : (j i : ℕ) (whole vs : List Visit) → IsFilled whole vs → Visits_at j vs → 1 ≤ i → i < j → Visits_at i whole
@@ -140,10 +106,10 @@ sequence-begin runs r n j may s gone = go (begins_at runs r j may)
         }
     go (inr least) =
         let (above, undone) = least_passes (λ k stage. not (is_done r.log k)) 1 (stages_of r) j least in
-        let none : Visits_at j (visits r.log) → ⊥ = λ some. let done : is_done r.log j ≡ true = done_if_visited j (visits r.log) all_done some in let wrong : true ≡ false = sym done ∙ not_is_true _ undone in cc in
+        let none : Visits_at j (visits r.log) → ⊥ = λ some. let done : is_done r.log j ≡ true = done_if_visited j (visits r.log) all_done some in let wrong : true ≡ false = sym done ∙ not-true _ undone in cc in
         record {
           gone = gone;
-          filled = (λ i a b. inr (visited i (visits r.log) (not_false _ (least_fails (λ k. not (is_done r.log k)) 1 (stages_of r) j least i a b))), filled_more (begun_visit j []) (visits r.log) (visits r.log) s.filled);
+          filled = (λ i a b. inr (visited i (visits r.log) (not-false _ (least_fails (λ k stage. not (is_done r.log k)) 1 (stages_of r) j least i a b))), filled_more (begun_visit j []) (visits r.log) (visits r.log) s.filled);
           ahead = (λ not_start. all_below j (visits r.log) (visits r.log) above none s.filled (λ k x. x), s.ahead);
         }
 

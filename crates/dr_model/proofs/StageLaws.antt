@@ -1,7 +1,7 @@
 -- Which stages an operation has.
-use Rattle.std.specs.Prelude.{◌≡◌, ℕ, zero, suc, ◌+◌, ◌<◌, ◌≤◌, ◌==◌, ◌⊎◌, Bool, true, false, ◌&&◌, ◌||◌, not, cond, map, filter, List, [], ◌∷◌, Some, None, if◌then◌else◌}
+use Rattle.std.specs.Prelude.{◌≡◌, ℕ, zero, suc, ◌+◌, ◌<◌, ◌≤◌, ◌==◌, ◌⊎◌, Bool, true, false, ◌&&◌, ◌||◌, not, cond, map, flat_map, filter, List, [], ◌∷◌, ◌++◌, Some, None, if◌then◌else◌}
 use Rattle.std.specs.List.{range_with_len}
-use Rattle.std.proofs.Common.{refl, ap, inl, inr, arith}
+use Rattle.std.proofs.Common.{refl, sym, ap, ◌∙◌, inl, inr, arith}
 use Rattle.std.proofs.lemmas.Bool.{cases_eq, eq-eqb, ne_eqb}
 use Rattle.dr_meaning.specs.Types.{Op, Callout, Step, PlanMachine, Plan, Wave, Record}
 use Rattle.dr_meaning.specs.declared.stage.StageKind.{StageKind}
@@ -12,7 +12,7 @@ use Rattle.dr_meaning.specs.Stages.{stages, array_stage, recovery, step_stage, w
 use Rattle.dr_meaning.specs.Visits.{is_done}
 use Rattle.dr_meaning.specs.InOrder.{is_start_up}
 use Rattle.dr_meaning.specs.Next.{least_stage}
-use Rattle.dr_meaning.proofs.Lists.{some_of-flat_map, some_of-right, some_of-reverse, Each, Some_of, each-append, each-reverse, each-flat_map, each-cond, each-map}
+use Rattle.dr_meaning.proofs.Lists.{some_of-flat_map, some_of-right, some_of-reverse, Each, Some_of, all_each, each-append, each-reverse, each-cond, each-map, each-of-map}
 
 -- a wave of this kind
 abbrev pub IsWave : StageKind → Stage → Type 0
@@ -41,14 +41,28 @@ steps_before-kind priority number (step ∷ steps) =
     (step_stage-kind number step.what step.before, steps_before-kind priority (number + 1) steps)
     (steps_before-kind priority (number + 1) steps)
 
+-- what each of two lists has, where each of both has it
+each-parts : {X : Type 0} (P : X → Type 0) (xs ys : List X) → Each P (xs ++ ys) → Each P xs × Each P ys
+each-parts P [] ys h = (tt, h)
+each-parts P (x ∷ xs) ys h = let (left, right) = each-parts P xs ys h.1 in ((h.0, left), right)
+
+-- a property of callouts and of the Start stage of each wave of the plan holds in the whole start-up
+pub each-start_waves : (P : Stage → Type 0) (plan : Plan) → ((s : Stage) → IsCallout s → P s) → Each (λ w. P (wave_stage StageKind.Start w)) (waves_of plan) → Each P (start_up plan)
+each-start_waves P plan callouts = go priorities
+  where
+    go : (numbers : List ℕ) → Each (λ w. P (wave_stage StageKind.Start w)) (flat_map (waves_at plan.machines) numbers) → Each P (flat_map (start_priority plan) numbers)
+    go [] h = tt
+    go (priority ∷ numbers) h =
+        let (here, later) = each-parts (λ w. P (wave_stage StageKind.Start w)) (waves_at plan.machines priority) _ h in
+        each-append P (start_priority plan priority) _
+        (each-append P (steps_before priority 1 plan.steps) _
+        (each-map IsCallout P callouts _ (steps_before-kind priority 1 plan.steps))
+        (each-of-map P (wave_stage StageKind.Start) (waves_at plan.machines priority) here))
+        (go numbers later)
+
 -- a property of callouts and of Start waves holds in the whole start-up
 pub each-start_up : (P : Stage → Type 0) (plan : Plan) → ((s : Stage) → IsCallout s → P s) → ((s : Stage) → s.kind ≡ StageKind.Start → P s) → Each P (start_up plan)
-each-start_up P plan callouts starts =
-    each-flat_map P (start_priority plan)
-    (λ priority. each-append P _ _
-    (each-map IsCallout P callouts _ (steps_before-kind priority 1 plan.steps))
-    (each-map (IsWave StageKind.Start) P starts _ (waves-kind StageKind.Start (waves_at plan.machines priority))))
-    priorities
+each-start_up P plan callouts starts = each-start_waves P plan callouts (all_each (λ w. P (wave_stage StageKind.Start w)) (λ w. starts (wave_stage StageKind.Start w) refl) (waves_of plan))
 
 -- a property of all that a migration or failover does
 pub each-recovery : (P : Stage → Type 0) (plan : Plan) → ((s : Stage) → IsCallout s → P s) → ((s : Stage) → s.kind ≡ StageKind.Start → P s) → ((s : Stage) → s.kind ≡ StageKind.Stop → P s) → P (array_stage StageKind.Sync) → P (array_stage StageKind.Prepare) → P (array_stage StageKind.FinalSync) → P (array_stage StageKind.Split) → Each P (recovery plan)
@@ -59,25 +73,32 @@ each-recovery P plan callouts starts stops sync prepare final_sync split = (
       (prepare, (final_sync, (split, each-start_up P plan callouts starts))),
 )
 
--- a property of all that an operation with start-up does, by that of the start-up
-pub each-stages : (P : Stage → Type 0) (plan : Plan) (o : Op) (forced : Bool) → is_start_up o ≡ true → Each P (start_up plan) → ((s : Stage) → s.kind ≡ StageKind.Stop → P s) → ((kind : StageKind) → P (array_stage kind)) → Each P (stages plan o forced)
-each-stages P plan o forced is starts stops arrays = go o forced is
+-- a property of all that an operation does, by that of its waves and of the start-up
+pub each-op : (P : Stage → Type 0) (plan : Plan) (o : Op) (forced : Bool) → ((kind : StageKind) → P (array_stage kind)) → (is_start_up o ≡ true → Each P (wind_down StageKind.Stop plan) × Each P (start_up plan)) → (is_start_up o ≡ false → Each P (wind_down StageKind.Clear plan)) → Each P (stages plan o forced)
+each-op P plan o forced arrays starts clears = go o forced starts clears
   where
-    recovers : Each P (recovery plan)
-    recovers = (
+    recovers : Each P (wind_down StageKind.Stop plan) × Each P (start_up plan) → Each P (recovery plan)
+    recovers (down, up) = (
       arrays StageKind.Sync,
-      each-append P (wind_down StageKind.Stop plan) _
-          (each-map (IsWave StageKind.Stop) P stops _ (wind_down-kind StageKind.Stop plan))
-          (arrays StageKind.Prepare, (arrays StageKind.FinalSync, (arrays StageKind.Split, starts))),
+      each-append P (wind_down StageKind.Stop plan) _ down (arrays StageKind.Prepare, (arrays StageKind.FinalSync, (arrays StageKind.Split, up))),
     )
 
-    go : (o : Op) (forced : Bool) → is_start_up o ≡ true → Each P (stages plan o forced)
-    go Op.Testing forced e = (arrays StageKind.Sync, (arrays StageKind.TestStart, starts))
-    go Op.Migrate forced e = recovers
-    go Op.Failover false e = recovers
-    go Op.Failover true e = (arrays StageKind.Split, starts)
-    go Op.Cleanup forced e = absurd cc
-    go Op.Reprotect forced e = absurd cc
+    go : (o : Op) (forced : Bool) → (is_start_up o ≡ true → Each P (wind_down StageKind.Stop plan) × Each P (start_up plan)) → (is_start_up o ≡ false → Each P (wind_down StageKind.Clear plan)) → Each P (stages plan o forced)
+    go Op.Testing forced both down = (arrays StageKind.Sync, (arrays StageKind.TestStart, (both refl).1))
+    go Op.Cleanup forced both down = each-append P (wind_down StageKind.Clear plan) _ (down refl) (arrays StageKind.TestStop, tt)
+    go Op.Migrate forced both down = recovers (both refl)
+    go Op.Failover false both down = recovers (both refl)
+    go Op.Failover true both down = (arrays StageKind.Split, (both refl).1)
+    go Op.Reprotect forced both down = each-append P (wind_down StageKind.Clear plan) _ (down refl) (arrays StageKind.Prepare, (arrays StageKind.Reverse, (arrays StageKind.FinalSync, tt)))
+
+wound_down : (P : Stage → Type 0) (kind : StageKind) (plan : Plan) → ((s : Stage) → s.kind ≡ kind → P s) → Each P (wind_down kind plan)
+wound_down P kind plan h = each-map (IsWave kind) P h _ (wind_down-kind kind plan)
+
+-- the same of an operation with start-up
+pub each-stages : (P : Stage → Type 0) (plan : Plan) (o : Op) (forced : Bool) → is_start_up o ≡ true → Each P (start_up plan) → ((s : Stage) → s.kind ≡ StageKind.Stop → P s) → ((kind : StageKind) → P (array_stage kind)) → Each P (stages plan o forced)
+each-stages P plan o forced is starts stops arrays =
+    each-op P plan o forced arrays (λ up. (wound_down P StageKind.Stop plan stops, starts))
+    (λ other. absurd (let wrong : true ≡ false = sym is ∙ other in cc))
 
 -- a property of all that an operation with start-up does
 pub each-start_up_op : (P : Stage → Type 0) (plan : Plan) (o : Op) (forced : Bool) → is_start_up o ≡ true → ((s : Stage) → IsCallout s → P s) → ((s : Stage) → s.kind ≡ StageKind.Start → P s) → ((s : Stage) → s.kind ≡ StageKind.Stop → P s) → ((kind : StageKind) → P (array_stage kind)) → Each P (stages plan o forced)
@@ -85,13 +106,8 @@ each-start_up_op P plan o forced is callouts starts stops arrays = each-stages P
 
 -- a property of all that a cleanup or a reprotect does
 pub each-clear_op : (P : Stage → Type 0) (plan : Plan) (o : Op) (forced : Bool) → is_start_up o ≡ false → ((s : Stage) → s.kind ≡ StageKind.Clear → P s) → ((kind : StageKind) → P (array_stage kind)) → Each P (stages plan o forced)
-each-clear_op P plan Op.Cleanup forced is clears arrays =
-    each-append P (wind_down StageKind.Clear plan) _ (each-map (IsWave StageKind.Clear) P clears _ (wind_down-kind StageKind.Clear plan)) (arrays StageKind.TestStop, tt)
-each-clear_op P plan Op.Reprotect forced is clears arrays =
-    each-append P (wind_down StageKind.Clear plan) _ (each-map (IsWave StageKind.Clear) P clears _ (wind_down-kind StageKind.Clear plan)) (arrays StageKind.Prepare, (arrays StageKind.Reverse, (arrays StageKind.FinalSync, tt)))
-each-clear_op P plan Op.Testing forced is clears arrays = absurd cc
-each-clear_op P plan Op.Migrate forced is clears arrays = absurd cc
-each-clear_op P plan Op.Failover forced is clears arrays = absurd cc
+each-clear_op P plan o forced is clears arrays =
+    each-op P plan o forced arrays (λ up. absurd (let wrong : true ≡ false = sym up ∙ is in cc)) (λ other. wound_down P StageKind.Clear plan clears)
 
 -- what holds of each stage holds of the stage of any number
 pub stage_from-each : (P : Stage → Type 0) (n : ℕ) (stages : List Stage) (k : ℕ) → P no_stage → Each P stages → P (stage_from n stages k)
@@ -101,6 +117,15 @@ stage_from-each P n (s ∷ stages) k none h = go (k == n) (stage_from-each P (n 
     go : (b : Bool) → P (stage_from (n + 1) stages k) → P (if b then s else stage_from (n + 1) stages k)
     go true later = h.0
     go false later = later
+
+-- a number whose stage has P is one from n on, where no stage is without P
+pub counted : (P : Stage → Type 0) → (P no_stage → ⊥) → (n : ℕ) (ss : List Stage) (k : ℕ) → P (stage_from n ss k) → n ≤ k
+counted P none n [] k p = absurd (none p)
+counted P none n (s ∷ ss) k p = go (cases_eq k n) (λ ne. counted P none (n + 1) ss k (rw (ne_eqb k n ne) at p))
+  where
+    go : (k ≡ n) ⊎ (k ≡ n → ⊥) → ((k ≡ n → ⊥) → n + 1 ≤ k) → n ≤ k
+    go (inl same) later = omega (arith, same)
+    go (inr ne) later = omega (arith, later ne)
 
 -- where no stage is left undone, a stage with P has a number that is done
 pub done_number : (P : Stage → Type 0) (log : List Record) (n : ℕ) (stages : List Stage) → least_stage (λ k stage. not (is_done log k)) n stages ≡ None → Some_of P stages → (k : ℕ) × (n ≤ k) × P (stage_from n stages k) × (is_done log k ≡ true)

@@ -1,8 +1,7 @@
 -- Start-up in order: what stands before a wave when it is begun, and which changes of the outside keep all machines in order.
 use Rattle.std.specs.Prelude.{Contains, ◌≡◌, ℕ, ◌+◌, ◌<◌, ◌≤◌, ◌⊎◌, Bool, true, false, ◌&&◌, IsTrue, List, [], ◌∷◌, Some, find}
 use Rattle.std.specs.List.{list_any}
-use Rattle.std.proofs.Common.{refl, inl, inr, arith, subst}
-use Rattle.std.proofs.lemmas.Bool.{cases_eq, ne_eqb}
+use Rattle.std.proofs.Common.{refl, inl, inr, subst}
 use Rattle.dr_meaning.specs.Types.{Placed, Post, Callout, Step, PlanMachine, Record}
 use Rattle.dr_meaning.specs.declared.stage.StageKind.{StageKind}
 use Rattle.dr_meaning.specs.declared.stage.Stage.{Stage}
@@ -21,7 +20,7 @@ use Rattle.dr_meaning.specs.InOrder.{is_ready, is_aside, has_code, is_start_up, 
 use Rattle.dr_meaning.specs.Backing.{KeepsOrder}
 use Rattle.dr_meaning.proofs.Elements.{each-contains, at-contains}
 use Rattle.dr_meaning.proofs.Lists.{Each, each-map, each-find, find-passes, all_each, Some_of, some_of-map}
-use Rattle.dr_model.proofs.StageLaws.{IsMachineOf, stage_from-each}
+use Rattle.dr_model.proofs.StageLaws.{IsMachineOf, stage_from-each, counted}
 use Rattle.dr_model.proofs.ThroughLaws.{Holds, Makes, through_from, some_of-find, find-some_of, visited}
 use Rattle.dr_model.proofs.WholeTest.{same_side_itself}
 use Rattle.dr_model.proofs.ExpectedLaws.{filter-find}
@@ -35,12 +34,7 @@ use Rattle.dr_model.proofs.WaveOrder.{IsEarlier, StartsIt, earlier_number}
 
 -- a stage that starts machines has a number from n on
 pub number_above : (n : ℕ) (ss : List Stage) (k : ℕ) → (stage_from n ss k).kind ≡ StageKind.Start → n ≤ k
-number_above n [] k e = absurd (let wrong : StageKind.Prompt ≡ StageKind.Start = e in cc)
-number_above n (s ∷ ss) k e = go (cases_eq k n) (λ ne. number_above (n + 1) ss k (rw (ne_eqb k n ne) at e))
-  where
-    go : (k ≡ n) ⊎ (k ≡ n → ⊥) → ((k ≡ n → ⊥) → n + 1 ≤ k) → n ≤ k
-    go (inl same) later = omega (arith, same)
-    go (inr ne) later = omega (arith, later ne)
+number_above n ss k e = counted (λ s. s.kind ≡ StageKind.Start) (λ f. let wrong : StageKind.Prompt ≡ StageKind.Start = f in cc) n ss k e
 
 module _ (run : Run) (up : is_start_up (op run) ≡ true) (v : Visit) (earlier : List Visit) (shape : visits run.log ≡ v ∷ earlier) (begun : (stage_of run v).kind ≡ StageKind.Start) (sequence : IsInSequence run) (x : PlanMachine) (of_plan : IsMachineOf run.plan x) (before : IsEarlier x (stage_of run v)) (w : Placed) (y0 y : Post) (reach : ReachPost run x.machine (new run) w y0 y) where
   its_number : (i : ℕ) × (1 ≤ i) × (i < v.stage) × StartsIt x (stage_at (stages_of run) i)

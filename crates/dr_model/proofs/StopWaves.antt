@@ -1,31 +1,25 @@
 -- In a plan in order a machine is in one Stop wave, so one stage of a recovery stops it.
-use Rattle.std.specs.Prelude.{◌≡◌, ℕ, zero, suc, ◌+◌, ◌<◌, ◌≤◌, ◌⊎◌, Bool, true, false, List, [], ◌∷◌, ◌++◌, Some, slice_get, length, map, reverse}
-use Rattle.std.proofs.Common.{refl, sym, ap, ◌∙◌, inl, inr, subst, arith}
-use Rattle.std.proofs.lemmas.Bool.{ne_eqb, cases_eq, cases_lt}
+use Rattle.std.specs.Prelude.{◌≡◌, ℕ, suc, ◌<◌, Bool, true, false, List, [], ◌∷◌, ◌++◌, Some, slice_get, length, map, reverse}
+use Rattle.std.proofs.Common.{refl, sym, ◌∙◌, inl, inr, subst, arith}
 use Rattle.std.proofs.lemmas.List.{reverse-append}
 use Rattle.std.proofs.lemmas.Option.{slice_get_within, slice_get_read, get_or_from_slice_get}
 use Rattle.dr_plan.specs.Waves.{waves_of}
-use Rattle.dr_plan.specs.Orders.{IsOrdered, IsEarlierWave, IsAt, IsWave, AreWaves}
+use Rattle.dr_plan.specs.Orders.{IsOrdered, IsEarlierWave, IsWave, AreWaves}
 use Rattle.dr_plan.proofs.WaveOrder.{are_waves}
-use Rattle.dr_meaning.specs.Types.{PlanMachine, Plan, Wave}
+use Rattle.dr_meaning.specs.Types.{Plan, Wave}
 use Rattle.dr_meaning.specs.declared.stage.StageKind.{StageKind}
 use Rattle.dr_meaning.specs.declared.stage.Stage.{Stage}
 use Rattle.dr_base.specs.Lists.{has}
-use Rattle.dr_meaning.specs.Stages.{array_stage, wave_stage, start_up, wind_down, recovery, no_stage, stage_from, stage_at}
+use Rattle.dr_meaning.specs.Stages.{array_stage, wave_stage, start_up, wind_down, recovery, no_stage}
 use Rattle.dr_meaning.specs.Meaning.{is_wave_of}
 use Rattle.dr_meaning.proofs.Lists.{Each, each-reverse, all_each, each-map, each-of-map}
 use Rattle.dr_meaning.proofs.Elements.{each-contains, contains-has}
 use Rattle.dr_model.proofs.StageLaws.{IsCallout, each-start_up}
 use Rattle.dr_model.proofs.StageOrder.{IsSortedBy, sorted-append, sorted_numbers}
-use Rattle.dr_model.proofs.WaveEntries.{one_entry}
-use Rattle.dr_model.proofs.EqualLaws.{IsSingle}
+use Rattle.dr_model.proofs.WaveEntries.{not_before}
+use Rattle.dr_model.proofs.EqualLaws.{IsSingle, single_if}
 
 -- One stage passes
-
--- before the first number there is no stage
-none_before : (n : ℕ) (ss : List Stage) (i : ℕ) → i < n → stage_from n ss i ≡ no_stage
-none_before n [] i below = refl
-none_before n (s ∷ ss) i below = rw (ne_eqb i n (λ e. omega arith)) (none_before (n + 1) ss i (omega arith))
 
 module _ (p : Stage → Bool) where
   -- of the two one at most passes
@@ -50,22 +44,7 @@ module _ (p : Stage → Bool) where
 
   -- then one number at most has a stage that passes
   single_of : (ss : List Stage) → p no_stage ≡ false → IsSortedBy NotBoth ss → IsSingle ss p
-  single_of ss none sorted i j a b = go (cases_lt i j) (cases_eq i j)
-    where
-      fails : (s : Stage) → s ≡ no_stage → p s ≡ true → ⊥
-      fails s e passes = let wrong : true ≡ false = sym passes ∙ ap p e ∙ none in cc
-
-      counted : (k : ℕ) → p (stage_at ss k) ≡ true → 1 ≤ k
-      counted zero passes = absurd (fails (stage_at ss 0) (none_before 1 ss 0 (omega arith)) passes)
-      counted (suc k) passes = omega arith
-
-      apart : (k l : ℕ) → p (stage_at ss k) ≡ true → p (stage_at ss l) ≡ true → k < l → ⊥
-      apart k l c d below = sorted_numbers NotBoth (λ s passes ends. fails no_stage refl ends) 1 ss sorted k l (counted k c) below c d
-
-      go : (i < j) ⊎ (j ≤ i) → (i ≡ j) ⊎ (i ≡ j → ⊥) → i ≡ j
-      go either (inl same) = same
-      go (inl lt) (inr ne) = absurd (apart i j a b lt)
-      go (inr le) (inr ne) = absurd (apart j i b a (omega arith))
+  single_of ss none sorted = single_if ss p none (λ i j least below a b. sorted_numbers NotBoth (λ s passes ends. let wrong : true ≡ false = sym ends ∙ none in cc) 1 ss sorted i j least below a b)
 
 -- The Stop waves
 
@@ -75,20 +54,7 @@ module _ (plan : Plan) (ordered : IsOrdered plan) (k : ℕ) where
 
   -- of two waves, one before the other, one at most has the machine
   not_in : (v w : Wave) → IsWave plan v → IsWave plan w → IsEarlierWave v w → NotIn v w
-  not_in v w is_v is_w earlier in_v in_w = go earlier
-    where
-      its_v : IsAt plan v.priority v.depth k
-      its_v = is_v.only k (contains-has v.machines k in_v)
-
-      its_w : IsAt plan w.priority w.depth k
-      its_w = is_w.only k (contains-has w.machines k in_w)
-
-      same : its_v.entry ≡ its_w.entry
-      same = one_entry plan.machines ordered.ascending its_v.entry its_w.entry its_v.listed its_w.listed (its_v.number ∙ sym its_w.number)
-
-      go : IsEarlierWave v w → ⊥
-      go (inl lt) = omega (arith, lt, its_v.same_priority, its_w.same_priority, ap (λ (m : PlanMachine). m.priority) same)
-      go (inr below) = omega (arith, below.1, its_v.same_depth, its_w.same_depth, ap (λ (m : PlanMachine). m.depth) same)
+  not_in v w is_v is_w earlier in_v in_w = not_before plan ordered v.priority v.depth w.priority w.depth k (is_v.only k (contains-has v.machines k in_v)) (is_w.only k (contains-has w.machines k in_w)) earlier
 
   -- of any two of these waves one at most has the machine
   abbrev AllNotIn : List Wave → Type 0

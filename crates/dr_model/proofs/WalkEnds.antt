@@ -1,36 +1,26 @@
 -- A run that is finished, or may be, has gone through its stages.
-use Rattle.std.specs.Prelude.{◌≡◌, ℕ, ◌+◌, ◌<◌, ◌≤◌, ◌==◌, ◌⊎◌, Bool, true, false, not, List, [], ◌∷◌, Some, None, IsTrue, length}
-use Rattle.std.proofs.Common.{refl, sym, ◌∙◌, arith, subst, inl, inr}
-use Rattle.std.proofs.lemmas.Bool.{cases_eq}
+use Rattle.std.specs.Prelude.{◌≡◌, ℕ, ◌+◌, ◌<◌, ◌≤◌, ◌==◌, true, false, not, List, [], Some, None, IsTrue, length}
+use Rattle.std.proofs.Common.{refl, sym, ◌∙◌, arith}
+use Rattle.std.proofs.lemmas.Bool.{not-false}
 use Rattle.dr_meaning.specs.Types.{Record}
-use Rattle.dr_meaning.specs.declared.stage.Stage.{Stage}
 use Rattle.dr_meaning.specs.Visits.{is_done}
-use Rattle.dr_meaning.specs.Runs.{Setting, Run, stages_of, is_open, is_finished, run_at, run_named, runs_of}
-use Rattle.dr_meaning.specs.Next.{least_stage, HasWalked}
+use Rattle.dr_meaning.specs.Runs.{Setting, Run, stages_of, is_open, is_finished, run_at, run_named, with_record, runs_of}
+use Rattle.dr_meaning.specs.Next.{least_undone, HasWalked}
 use Rattle.dr_meaning.specs.Lawful.{MayFinish, MayCome, LawfulAfter}
 use Rattle.dr_meaning.proofs.Lists.{each-find}
-use Rattle.dr_model.proofs.ReachLaws.{with_record}
+use Rattle.dr_model.proofs.LeastLaws.{none_passes}
 use Rattle.dr_model.proofs.LogLaws.{IsGoneThrough, head_done, gone-record, gone-lawful, unfinished}
 use Rattle.dr_model.proofs.JournalLaws.{GoesOn, still_going}
 use Rattle.dr_model.proofs.EachRun.{each-lawful}
 
 -- where no stage is undone, each is done
-pub none_undone : (test : ℕ → Bool) (n : ℕ) (stages : List Stage) → least_stage (λ k stage. not (test k)) n stages ≡ None → (k : ℕ) → n ≤ k → k < n + length stages → test k ≡ true
-none_undone test n [] none k above below = absurd (omega (arith, above, below))
-none_undone test n (s ∷ stages) none k above below = go (test n) refl (none_undone test (n + 1) stages)
-  where
-    go : (b : Bool) → test n ≡ b → (least_stage (λ k stage. not (test k)) (n + 1) stages ≡ None → (k : ℕ) → n + 1 ≤ k → k < n + 1 + length stages → test k ≡ true) → test k ≡ true
-    go false e rest = absurd (let wrong : Some n ≡ None = rw e at none in cc)
-    go true e rest = here (cases_eq n k)
-      where
-        here : (n ≡ k) ⊎ (n ≡ k → ⊥) → test k ≡ true
-        here (inl same) = subst (λ j. test j ≡ true) same e
-        here (inr other) = rest (rw e at none) k (omega (arith, above, other)) (omega (arith, below))
+pub none_undone : (r : Run) → least_undone r ≡ None → (k : ℕ) → 1 ≤ k → k < 1 + length (stages_of r) → is_done r.log k ≡ true
+none_undone r none k above within = not-false _ (none_passes (λ k stage. not (is_done r.log k)) 1 (stages_of r) none k above within)
 
 -- a run that may be finished
 pub finish_ends : (r : Run) (machines : List ℕ) → IsGoneThrough r → MayFinish r machines → HasWalked r
 finish_ends r machines gone may = record {
-  each = λ k above below. none_undone (is_done r.log) 1 (stages_of r) may.all_done k above (omega (arith, below));
+  each = λ k above below. none_undone r may.all_done k above (omega (arith, below));
   all_done = head_done _ may.none_begun gone.before;
   none_begun = may.none_begun;
   none_excused = gone.none_excused;

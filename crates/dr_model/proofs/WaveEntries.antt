@@ -1,23 +1,25 @@
 -- A Start wave has machines of the plan with its priority and its depth, and a machine has one entry.
-use Rattle.std.specs.Prelude.{◌≡◌, ℕ, zero, suc, ◌<◌, ◌==◌, Bool, true, false, ◌&&◌, List, [], ◌∷◌, map, filter, Contains}
+use Rattle.std.specs.Prelude.{◌≡◌, ℕ, zero, suc, ◌<◌, ◌==◌, ◌⊎◌, Bool, true, false, ◌&&◌, List, [], ◌∷◌, map, filter, Contains}
 use Rattle.std.specs.List.Sorted.{IsStrictlyIncreasing}
-use Rattle.std.proofs.Common.{refl, sym, ap, ◌∙◌, arith}
+use Rattle.std.proofs.Common.{refl, sym, ap, ◌∙◌, inl, inr, arith}
 use Rattle.std.proofs.lemmas.Bool.{eqb-true}
 use Rattle.std.proofs.lemmas.List.Elements.{All-contains, All-filter, All-contains_itself, filter_passes}
 use Rattle.dr_plan.specs.Waves.{machines_at, wave_of, wave_at, waves_at, depths_in, priorities}
-use Rattle.dr_plan.specs.Orders.{IsAt}
+use Rattle.dr_plan.specs.Orders.{IsOrdered, IsAt}
 use Rattle.dr_plan.proofs.OrderLaws.{mapped_from, mapped_to}
 use Rattle.dr_plan.proofs.FaultLaws.{later, tail_up}
 use Rattle.dr_meaning.specs.Types.{Op, PlanMachine, Plan}
 use Rattle.dr_meaning.specs.declared.stage.StageKind.{StageKind}
 use Rattle.dr_meaning.specs.declared.stage.Stage.{Stage}
 use Rattle.dr_base.specs.Lists.{has}
-use Rattle.dr_meaning.specs.Stages.{stages, wave_stage, start_priority, steps_before, start_up, stage_from}
+use Rattle.dr_meaning.specs.Stages.{stages, wave_stage, start_up, stage_from}
+use Rattle.dr_meaning.specs.Meaning.{same_kind, is_wave_of}
 use Rattle.dr_meaning.specs.InOrder.{is_start_up}
-use Rattle.dr_meaning.proofs.Lists.{Each, each-append, each-map, each-flat_map, each-of-map}
+use Rattle.dr_meaning.proofs.Lists.{Each, each-flat_map}
 use Rattle.dr_meaning.proofs.Elements.{contains-has}
 use Rattle.dr_model.proofs.ChainLaws.{and_left, and_right}
-use Rattle.dr_model.proofs.StageLaws.{IsCallout, steps_before-kind, each-stages, each-clear_op, stage_from-each}
+use Rattle.dr_model.proofs.NumberLaws.{kind-same}
+use Rattle.dr_model.proofs.StageLaws.{Waves, each-start_waves, each-stages, each-clear_op, stage_from-each}
 
 -- One entry
 
@@ -33,7 +35,24 @@ one_entry (z ∷ zs) up x y (suc k, l, e) (zero, r, f) same =
 one_entry (z ∷ zs) up x y (suc k, l, e) (suc i, r, f) same =
     one_entry zs (tail_up z.machine (map (λ m. m.machine) zs) up) x y (k, omega arith, e) (i, omega arith, f) same
 
+-- so its number has one priority and one depth
+pub one_place : (plan : Plan) → IsOrdered plan → (p d q e k : ℕ) → IsAt plan p d k → IsAt plan q e k → (p ≡ q) × (d ≡ e)
+one_place plan ordered p d q e k x y =
+    let same : x.entry ≡ y.entry = one_entry plan.machines ordered.ascending x.entry y.entry x.listed y.listed (x.number ∙ sym y.number) in
+    (sym x.same_priority ∙ ap (λ (m : PlanMachine). m.priority) same ∙ y.same_priority, sym x.same_depth ∙ ap (λ (m : PlanMachine). m.depth) same ∙ y.same_depth)
+
+-- and of two places, one before the other, one at most has it
+pub not_before : (plan : Plan) → IsOrdered plan → (p d q e k : ℕ) → IsAt plan p d k → IsAt plan q e k → (p < q) ⊎ ((p ≡ q) × (d < e)) → ⊥
+not_before plan ordered p d q e k x y = go (one_place plan ordered p d q e k x y)
+  where
+    go : (p ≡ q) × (d ≡ e) → (p < q) ⊎ ((p ≡ q) × (d < e)) → ⊥
+    go same (inl lower) = omega (arith, same.0, lower)
+    go same (inr shallower) = omega (arith, same.1, shallower.1)
+
 -- The machines of a wave
+
+pub wave_parts : (kind : StageKind) (k : ℕ) (s : Stage) → is_wave_of kind k s ≡ true → Waves kind k s
+wave_parts kind k s e = (kind-same s.kind kind (and_left _ (has s.machines k) e), and_right (same_kind s.kind kind) _ e)
 
 pub at_from : (plan : Plan) (p d k : ℕ) → has (machines_at plan.machines p d) k ≡ true → IsAt plan p d k
 at_from plan p d k h =
@@ -58,12 +77,10 @@ module _ (plan : Plan) where
 
   start_up-entries : Each HasEntries (start_up plan)
   start_up-entries =
-      each-flat_map HasEntries (start_priority plan)
-      (λ p. each-append HasEntries (steps_before p 1 plan.steps) _
-      (each-map IsCallout HasEntries (λ s c e k h. absurd (let wrong : has [] k ≡ true = rw c.1 at h in cc)) _ (steps_before-kind p 1 plan.steps))
-      (each-of-map HasEntries (wave_stage StageKind.Start) (waves_at plan.machines p)
-      (each-flat_map (λ w. HasEntries (wave_stage StageKind.Start w)) (wave_at plan.machines p) (λ d. wave-entries p d (machines_at plan.machines p d) (at_from plan p d)) (depths_in plan.machines))))
-      priorities
+      each-start_waves HasEntries plan (λ s c e k h. absurd (let wrong : has [] k ≡ true = rw c.1 at h in cc))
+      (each-flat_map (λ w. HasEntries (wave_stage StageKind.Start w)) (waves_at plan.machines)
+      (λ p. each-flat_map (λ w. HasEntries (wave_stage StageKind.Start w)) (wave_at plan.machines p) (λ d. wave-entries p d (machines_at plan.machines p d) (at_from plan p d)) (depths_in plan.machines))
+      priorities)
 
   -- each machine of a Start wave
   pub in_wave : (o : Op) (forced : Bool) → is_start_up o ≡ true → (j : ℕ) → HasEntries (stage_from 1 (stages plan o forced) j)

@@ -1,7 +1,7 @@
 -- Start waves stand by priority, then by depth.
 use Rattle.std.specs.Prelude.{◌≡◌, ℕ, zero, suc, ◌+◌, ◌<◌, ◌≤◌, ◌⊎◌, Bool, true, List, [], ◌∷◌, ◌++◌, map, flat_map}
 use Rattle.std.specs.List.{range_with_len}
-use Rattle.std.proofs.Common.{refl, sym, ap, ◌∙◌, inl, inr, arith, subst}
+use Rattle.std.proofs.Common.{refl, sym, ◌∙◌, inl, inr, arith, subst}
 use Rattle.std.proofs.lemmas.Bool.{eq-eqb, ne_eqb, cases_eq, cases_lt}
 use Rattle.dr_meaning.specs.Types.{Op, PlanMachine, Plan, Wave}
 use Rattle.dr_meaning.specs.declared.stage.StageKind.{StageKind}
@@ -16,12 +16,12 @@ use Rattle.dr_meaning.proofs.Lists.{Each, each-append, each-map, Some_of, some_o
 use Rattle.dr_model.proofs.StageOrder.{started, some_of-stages, IsSortedBy, sorted-append, sorted_numbers, stages_sorted}
 use Rattle.dr_model.proofs.StageLaws.{IsMachineOf, priorities-has, wave-has, range-has, depth-below}
 
--- two Start waves, one not after the other
-abbrev pub NotAfter : Stage → Stage → Type 0
-NotAfter s t = s.kind ≡ StageKind.Start → t.kind ≡ StageKind.Start → (s.priority < t.priority) ⊎ ((s.priority ≡ t.priority) × (s.depth ≤ t.depth))
+-- of two Start waves the first comes before the second: it has a lower priority, or the same and a lower depth
+abbrev pub IsWaveBefore : Stage → Stage → Type 0
+IsWaveBefore s t = s.kind ≡ StageKind.Start → t.kind ≡ StageKind.Start → (s.priority < t.priority) ⊎ ((s.priority ≡ t.priority) × (s.depth < t.depth))
 
 abbrev IsSorted : List Stage → Type 0
-IsSorted ss = IsSortedBy NotAfter ss
+IsSorted ss = IsSortedBy IsWaveBefore ss
 
 -- a wave's place
 abbrev FromDepth : ℕ → ℕ → Stage → Type 0
@@ -57,16 +57,16 @@ module _ (machines : List PlanMachine) (p : ℕ) where
   waves_from-sorted a zero = tt
   waves_from-sorted a (suc n) =
       subst IsSorted (sym (next_waves a n))
-      (sorted-append NotAfter (first_waves a) (waves_from (a + 1) n) (wave_stage-sorted p a (machines_at machines p a)) (waves_from-sorted (a + 1) n)
-      (each-map (λ s. (s.priority ≡ p) × (s.depth ≡ a)) (λ s. Each (NotAfter s) (waves_from (a + 1) n))
-      (λ s h. each-map (FromDepth p (a + 1)) (NotAfter s) (λ t k x y. inr (h.0 ∙ sym k.0, omega (arith, h.1, k.1))) (waves_from (a + 1) n) (waves_from-place (a + 1) n))
+      (sorted-append IsWaveBefore (first_waves a) (waves_from (a + 1) n) (wave_stage-sorted p a (machines_at machines p a)) (waves_from-sorted (a + 1) n)
+      (each-map (λ s. (s.priority ≡ p) × (s.depth ≡ a)) (λ s. Each (IsWaveBefore s) (waves_from (a + 1) n))
+      (λ s h. each-map (FromDepth p (a + 1)) (IsWaveBefore s) (λ t k x y. inr (h.0 ∙ sym k.0, omega (arith, h.1, k.1))) (waves_from (a + 1) n) (waves_from-place (a + 1) n))
       _ (wave_stage-place p a (machines_at machines p a))))
 
 -- the stages of a start-up operation
-pub wave_numbers : (plan : Plan) (o : Op) (forced : Bool) → is_start_up o ≡ true → (i j : ℕ) → 1 ≤ i → i < j → NotAfter (stage_from 1 (stages plan o forced) i) (stage_from 1 (stages plan o forced) j)
+pub wave_numbers : (plan : Plan) (o : Op) (forced : Bool) → is_start_up o ≡ true → (i j : ℕ) → 1 ≤ i → i < j → IsWaveBefore (stage_from 1 (stages plan o forced) i) (stage_from 1 (stages plan o forced) j)
 wave_numbers plan o forced up =
-    sorted_numbers NotAfter (λ s k l. let wrong : StageKind.Prompt ≡ StageKind.Start = l in cc) 1 (stages plan o forced)
-    (stages_sorted NotAfter (λ s t h k l. absurd (h k)) (λ s t lt k l. inl lt) plan (λ p. waves_from-sorted plan.machines p 0 (above (map (λ m. m.depth) plan.machines))) o forced up)
+    sorted_numbers IsWaveBefore (λ s k l. let wrong : StageKind.Prompt ≡ StageKind.Start = l in cc) 1 (stages plan o forced)
+    (stages_sorted IsWaveBefore (λ s t h k l. absurd (h k)) (λ s t lt k l. inl lt) plan (λ p. waves_from-sorted plan.machines p 0 (above (map (λ m. m.depth) plan.machines))) o forced up)
 
 -- where a stage has P, it has a number
 pub number_with : (P : Stage → Type 0) (n : ℕ) (ss : List Stage) → Some_of P ss → (i : ℕ) × (n ≤ i) × P (stage_from n ss i)
@@ -109,21 +109,21 @@ stages-starts plan x o forced up h = some_of-stages (StartsIt x) plan o forced u
 pub earlier_number : (plan : Plan) (x : PlanMachine) (o : Op) (forced : Bool) → is_start_up o ≡ true → IsMachineOf plan x → (j : ℕ) → 1 ≤ j → (stage_from 1 (stages plan o forced) j).kind ≡ StageKind.Start → IsEarlier x (stage_from 1 (stages plan o forced) j) → (i : ℕ) × (1 ≤ i) × (i < j) × StartsIt x (stage_from 1 (stages plan o forced) i)
 earlier_number plan x o forced up h j at_least kind earlier =
     let (i, above, starts) = number_with (StartsIt x) 1 (stages plan o forced) (stages-starts plan x o forced up h) in
-    (i, above, go i above starts (cases_lt i j), starts)
+    (i, above, go i above starts (cases_lt i j) (cases_eq i j), starts)
   where
-    no_less : (i : ℕ) → StartsIt x (stage_from 1 (stages plan o forced) i) → IsEarlier x (stage_from 1 (stages plan o forced) j) → ((stage_from 1 (stages plan o forced) j).priority < (stage_from 1 (stages plan o forced) i).priority) ⊎ (((stage_from 1 (stages plan o forced) j).priority ≡ (stage_from 1 (stages plan o forced) i).priority) × ((stage_from 1 (stages plan o forced) j).depth ≤ (stage_from 1 (stages plan o forced) i).depth)) → ⊥
-    no_less i s (inl lt) (inl gt) = omega (arith, s.2)
-    no_less i s (inl lt) (inr same) = omega (arith, s.2, same.0)
-    no_less i s (inr eq) (inl gt) = omega (arith, s.2, eq.0)
-    no_less i s (inr eq) (inr same) = omega (arith, s.3, eq.1, same.1)
+    -- a machine's wave isn't earlier than itself
+    not_same : (s : Stage) → StartsIt x s → IsEarlier x s → ⊥
+    not_same s its (inl lt) = omega (arith, its.2)
+    not_same s its (inr low) = omega (arith, its.3, low.1)
 
-    not_same : (i : ℕ) → StartsIt x (stage_from 1 (stages plan o forced) i) → i ≡ j → ⊥
-    not_same i s e = no_less i s earlier (inr (ap (λ k. (stage_from 1 (stages plan o forced) k).priority) (sym e), omega (arith, ap (λ k. (stage_from 1 (stages plan o forced) k).depth) (sym e))))
+    -- nor than one that comes before it
+    not_later : (s t : Stage) → StartsIt x s → IsEarlier x t → (t.priority < s.priority) ⊎ ((t.priority ≡ s.priority) × (t.depth < s.depth)) → ⊥
+    not_later s t its (inl lt) (inl gt) = omega (arith, its.2)
+    not_later s t its (inl lt) (inr same) = omega (arith, its.2, same.0)
+    not_later s t its (inr low) (inl gt) = omega (arith, its.2, low.0)
+    not_later s t its (inr low) (inr same) = omega (arith, its.3, low.1, same.1)
 
-    go : (i : ℕ) → 1 ≤ i → StartsIt x (stage_from 1 (stages plan o forced) i) → (i < j) ⊎ (j ≤ i) → i < j
-    go i above s (inl lt) = lt
-    go i above s (inr le) = apart (cases_eq i j)
-      where
-        apart : (i ≡ j) ⊎ (i ≡ j → ⊥) → i < j
-        apart (inl e) = absurd (not_same i s e)
-        apart (inr ne) = absurd (no_less i s earlier (wave_numbers plan o forced up j i at_least (omega arith) kind s.0))
+    go : (i : ℕ) → 1 ≤ i → StartsIt x (stage_from 1 (stages plan o forced) i) → (i < j) ⊎ (j ≤ i) → (i ≡ j) ⊎ (i ≡ j → ⊥) → i < j
+    go i least s (inl lt) either = lt
+    go i least s (inr le) (inl same) = absurd (not_same (stage_from 1 (stages plan o forced) j) (subst (λ k. StartsIt x (stage_from 1 (stages plan o forced) k)) same s) earlier)
+    go i least s (inr le) (inr ne) = absurd (not_later (stage_from 1 (stages plan o forced) i) (stage_from 1 (stages plan o forced) j) s earlier (wave_numbers plan o forced up j i at_least (omega arith) kind s.0))

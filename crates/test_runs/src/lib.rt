@@ -9,6 +9,10 @@ mod journals;
 #[cfg(test)]
 mod model;
 #[cfg(test)]
+mod progress;
+#[cfg(test)]
 mod replay;
 #[cfg(test)]
 mod setup;
+#[cfg(test)]
+mod walks;

@@ -1,0 +1,10 @@
+pub mod KeyLaws
+pub mod CountLaws
+pub mod VisitLaws
+pub mod FactLaws
+pub mod AttemptLaws
+pub mod BeginLaws
+pub mod DoneLaws
+pub mod ExcuseLaws
+pub mod DueLaws
+pub mod QuietLaws

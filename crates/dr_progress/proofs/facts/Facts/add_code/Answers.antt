@@ -1,0 +1,11 @@
+use Rattle.std.proofs.Common.{refl, arith}
+use Rattle.dr_progress.proofs.KeyLaws.{of_ok}
+use Rattle.dr_progress.proofs.FactLaws.{code_put}
+use Rattle.dr_progress.proofs.QuietLaws.{code_keeps, puts_code_only}
+use Rattle.dr_progress.proofs.facts.Facts.add_code.Goals as goal
+
+pub returns-clause-kept : goal.returns-clause-kept
+returns-clause-kept c = λ code progress log kept. code_keeps _ _ _ _ _ _ _ _ (code_put _ _ _ _ _ (of_ok c.insert.result (c.insert.ensures.succeeds (omega (arith, c.requires))) c.insert.ensures.updates) refl refl refl) kept
+
+pub returns-clause-others : goal.returns-clause-others
+returns-clause-others c = puts_code_only _ _ _ _ _ (code_put _ _ _ _ _ (of_ok c.insert.result (c.insert.ensures.succeeds (omega (arith, c.requires))) c.insert.ensures.updates) refl refl refl)

@@ -1,0 +1,10 @@
+pub mod RouteStages
+pub mod ListLaws
+pub mod AscendLaws
+pub mod SearchLaws
+pub mod LeftLaws
+pub mod NextLaws
+pub mod WalkLaws
+pub mod TakingLaws
+pub mod CountLaws
+pub mod Counted

@@ -1,0 +1,10 @@
+use Rattle.dr_walk.proofs.walk.Walk.may_excuse.Given as goal
+
+abbrev pub ghost-kind : goal.ghost-kind
+ghost-kind g a = g.run
+
+abbrev pub ghost-has_machine : goal.ghost-has_machine
+ghost-has_machine g a = g.run
+
+abbrev pub ghost-is_skipped : goal.ghost-is_skipped
+ghost-is_skipped g a = g.run
