@@ -1,12 +1,11 @@
 -- A run's progress behind one more Attempt.
-use Rattle.std.specs.Prelude.{◌≡◌, ℕ, ◌+◌, ◌<◌, ◌≤◌, ◌⊎◌, Bool, true, false, List, ◌∷◌, Option, Some, None, IfSome, length}
+use Rattle.std.specs.Prelude.{◌≡◌, ℕ, ◌+◌, ◌<◌, ◌≤◌, ◌⊎◌, false, List, ◌∷◌, Option, Some, None, IfSome, length}
 use Rattle.std.proofs.Common.{refl, inl, inr, arith}
 use Rattle.std.proofs.lemmas.Bool.{cases_lt}
 use Rattle.dr_meaning.specs.Types.{Record}
 use Rattle.dr_progress.specs.declared.facts.Facts.{Facts}
 use Rattle.dr_progress.specs.declared.progress.Progress.{Progress}
-use Rattle.dr_progress.specs.Facts.{visit_at}
-use Rattle.dr_progress.specs.Progress.{is_at, asides_of, asides_at, IsUnvisited, KeepsCounts, KeepsStages, KeepsExcuses, KeepsDue, IsBegunWhen, Keeps}
+use Rattle.dr_progress.specs.Progress.{is_at, asides_at, IsUnvisited, KeepsExcuses, IsBegunWhen, Keeps}
 
 -- a stage that was never begun has no machines set aside
 pub none_unvisited : (facts : Facts) (run : ℕ) (p : Progress) (log : List Record) → KeepsExcuses facts run p log → (stage : ℕ) → IsUnvisited p stage → asides_at facts run stage ≡ 0
@@ -37,17 +36,18 @@ attempted p upto = record p {
   again_upto = upto;
 }
 
-pub attempt_keeps : (facts : Facts) (run moment upto : ℕ) (p : Progress) (log : List Record) → p.walked ≤ upto → IfSome p.begun (λ stage. stage ≤ upto) → Keeps facts run p log → Keeps facts run (attempted p upto) (Record.Attempt run moment ∷ log)
-attempt_keeps facts run moment upto p log walked at_begun k = record {
+pub attempt_keeps : (facts : Facts) (run moment upto : ℕ) (p : Progress) (log : List Record) → p.walked ≤ upto → upto ≤ p.walked + 1 → IfSome p.begun (λ stage. stage ≤ upto) → Keeps facts run p log → Keeps facts run (attempted p upto) (Record.Attempt run moment ∷ log)
+attempt_keeps facts run moment upto p log walked bounded at_begun k = record {
   counts = record {
     attempts = rw k.counts.attempts (omega arith);
     skips = k.counts.skips;
+    visits = k.counts.visits;
     left = k.counts.left;
     finished = k.counts.finished;
     last_aside = refl;
     few = let few : p.attempts + (p.skips + p.visits) ≤ length log = k.counts.few in omega (arith, few);
   };
-  stages = record { begun = k.stages.begun; next = k.stages.next; done = k.stages.done; unvisited = k.stages.unvisited };
+  stages = record { begun = k.stages.begun; next = k.stages.next; done = k.stages.done; unvisited = k.stages.unvisited; done_once = k.stages.done_once; walked_was = k.stages.walked_was };
   excuses = record {
     told = k.excuses.told;
     counted = k.excuses.counted;
@@ -61,6 +61,7 @@ attempt_keeps facts run moment upto p log walked at_begun k = record {
     due = λ stage some apart behind within. refl;
     worked = λ stage some apart outside. absurd (none stage (visited_if_some facts run p log k.excuses stage some apart) outside);
     begun = begins p.begun at_begun;
+    bounded = bounded;
   };
   answers = k.answers;
   codes = k.codes;

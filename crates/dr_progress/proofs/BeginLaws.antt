@@ -1,16 +1,15 @@
 -- A run's progress behind one more Begin.
-use Rattle.std.specs.Prelude.{◌≡◌, ◌≢◌, ℕ, ◌+◌, ◌-◌, ◌<◌, ◌≤◌, ◌==◌, ◌⊎◌, Bool, true, false, List, [], ◌∷◌, Option, Some, None, IfSome, cond, length}
+use Rattle.std.specs.Prelude.{◌≡◌, ◌≢◌, ℕ, ◌+◌, ◌-◌, ◌<◌, ◌≤◌, ◌==◌, ◌⊎◌, true, false, List, ◌∷◌, Option, Some, None, IfSome, length}
 use Rattle.std.proofs.Common.{refl, sym, ap, ◌∙◌, inl, inr, arith}
 use Rattle.std.proofs.lemmas.Bool.{eq-eqb, ne_eqb, cases_eq, cases_lt}
 use Rattle.dr_meaning.specs.Types.{Record}
-use Rattle.dr_meaning.specs.Visits.{last_visit, is_excused, is_done}
+use Rattle.dr_meaning.specs.Visits.{last_visit, is_excused}
 use Rattle.dr_progress.specs.declared.facts.Facts.{Facts}
-use Rattle.dr_progress.specs.declared.facts.LastVisit.{LastVisit}
 use Rattle.dr_progress.specs.declared.progress.Progress.{Progress}
 use Rattle.dr_progress.specs.Facts.{excuse_at, visit_at, PutsVisit}
-use Rattle.dr_progress.specs.Progress.{is_at, is_still, is_excused_at, asides_in, asides_of, asides_at, is_due, IsUnvisited, KeepsCounts, KeepsStages, KeepsExcuses, KeepsDue, IsBegunSince, Keeps, NoneWaits, WaitsFirst, MayBeginAt}
+use Rattle.dr_progress.specs.Progress.{is_at, is_still, is_excused_at, asides_in, asides_at, is_due, IsUnvisited, KeepsCounts, KeepsStages, KeepsExcuses, KeepsDue, Keeps, NoneWaits, WaitsFirst}
 use Rattle.dr_progress.proofs.FactLaws.{excuses_stay, answers_stay, codes_stay, excused_by}
-use Rattle.dr_progress.proofs.AttemptLaws.{none_unvisited, visited_if_some}
+use Rattle.dr_progress.proofs.AttemptLaws.{visited_if_some}
 
 -- the progress behind a Begin of the stage, with the bound of what waits and how many machines are left
 abbrev pub begun_at : Progress → ℕ → ℕ → ℕ → Progress
@@ -27,6 +26,7 @@ counts : (p : Progress) (log : List Record) (run stage upto left : ℕ) → left
 counts p log run stage upto left fewer k = record {
   attempts = k.attempts;
   skips = k.skips;
+  visits = rw k.visits (omega arith);
   left = fewer ∙ ap (λ n. n - asides_in stage log) k.left;
   finished = k.finished;
   last_aside = refl;
@@ -43,6 +43,8 @@ stages p log run stage upto left none above below k = record {
   next = (above, below);
   done = λ j least most apart. rw apart (k.done j least most (free p none j));
   unvisited = λ j never. rw never.1 (k.unvisited j (outside j never.0, free p none j));
+  done_once = k.done_once;
+  walked_was = k.walked_was;
 }
   where
     outside : (j : ℕ) → (j ≡ 0) ⊎ (p.walked < j) → (j ≡ 0) ⊎ (p.walked < j)
@@ -128,6 +130,7 @@ module _ (old new : Facts) (run : ℕ) (p : Progress) (log : List Record) (stage
       since = rw (eq-eqb stage stage refl) refl;
       first = λ within. (first.behind, later);
     };
+    bounded = d.bounded;
   }
     where
       still : (j : ℕ) → stage == j ≡ false → 0 < asides_at new run j → 0 < asides_at old run j
@@ -201,6 +204,7 @@ module _ (facts : Facts) (run : ℕ) (p : Progress) (log : List Record) (left : 
       since = rw (eq-eqb (p.walked + 1) (p.walked + 1) refl) refl;
       first = λ within. absurd (omega (arith, within));
     };
+    bounded = omega arith;
   }
     where
       quiet : (j : ℕ) → 0 < asides_at facts run j → is_due log j ≡ false

@@ -1,11 +1,9 @@
 -- What is counted is at most as many as there are records, so a count that ends at its greatest value adds one.
-use Rattle.std.specs.Prelude.{◌≡◌, ℕ, suc, ◌+◌, ◌-◌, ◌<◌, ◌≤◌, ◌==◌, ◌^◌, Bool, true, false, List, [], ◌∷◌, Option, cond, length}
-use Rattle.std.proofs.Common.{refl, arith}
+use Rattle.std.specs.Prelude.{ℕ, suc, ◌+◌, ◌≤◌, ◌==◌, Bool, true, false, List, [], ◌∷◌, cond, length}
+use Rattle.std.proofs.Common.{arith}
 use Rattle.dr_meaning.specs.Types.{Record}
 use Rattle.dr_meaning.specs.Visits.{begun}
-use Rattle.dr_progress.specs.declared.facts.Facts.{Facts}
-use Rattle.dr_progress.specs.declared.progress.Progress.{Progress}
-use Rattle.dr_progress.specs.Progress.{is_at, asides_in, asides_at, left_in, Keeps}
+use Rattle.dr_progress.specs.Progress.{is_at, asides_in, left_in}
 
 pub asides_few : (stage : ℕ) (log : List Record) → asides_in stage log ≤ length log
 asides_few stage [] = omega arith

@@ -1,15 +1,14 @@
 -- A run's progress behind one more Done, and behind a Finish.
-use Rattle.std.specs.Prelude.{◌≡◌, ◌≢◌, ℕ, ◌+◌, ◌<◌, ◌≤◌, ◌==◌, ◌⊎◌, Bool, true, false, ◌&&◌, not, List, [], ◌∷◌, Option, Some, None, IfSome, cond, length, max}
+use Rattle.std.specs.Prelude.{◌≡◌, ℕ, ◌+◌, ◌<◌, ◌≤◌, ◌==◌, ◌⊎◌, Bool, true, false, ◌&&◌, ◌||◌, not, List, ◌∷◌, Option, Some, None, IfSome, length, max}
 use Rattle.std.specs.List.{list_any}
 use Rattle.std.proofs.Common.{refl, sym, ◌∙◌, inl, inr, arith}
 use Rattle.std.proofs.lemmas.Bool.{eq-eqb, ne_eqb, cases_eq, cases_lt}
 use Rattle.dr_meaning.specs.Types.{Record}
-use Rattle.dr_meaning.specs.Visits.{visits, begun, last_visit, is_excused, is_done}
+use Rattle.dr_meaning.specs.Visits.{visits, begun, last_visit, is_done}
 use Rattle.dr_meaning.specs.Next.{is_attempt, begun_since_attempt}
 use Rattle.dr_progress.specs.declared.facts.Facts.{Facts}
 use Rattle.dr_progress.specs.declared.progress.Progress.{Progress}
-use Rattle.dr_progress.specs.Facts.{excuse_at, visit_at}
-use Rattle.dr_progress.specs.Progress.{is_at, asides_at, is_due, IsUnvisited, KeepsCounts, KeepsStages, KeepsExcuses, KeepsDue, IsBegunSince, IsBegunBefore, IsBegunWhen, Keeps, WaitsBehind}
+use Rattle.dr_progress.specs.Progress.{is_at, asides_at, was_done, is_due, IsUnvisited, KeepsStages, KeepsExcuses, KeepsDue, IsBegunSince, IsBegunWhen, Keeps, WaitsBehind}
 use Rattle.dr_progress.proofs.VisitLaws.{done_here, done_other, done_ends, done_excuses}
 
 -- the progress behind a Done of the begun stage, with the bound behind which stages wait
@@ -34,6 +33,8 @@ module _ (p : Progress) (log : List Record) (run stage after : ℕ) (is : p.begu
     next = tt;
     done = λ j least most free. go j least most (cases_eq stage j);
     unvisited = λ j never. fresh j never.0 (cases_eq stage j);
+    done_once = λ j done. once j done (cases_eq stage j);
+    walked_was = λ j least most. was j least most (cases_eq stage j);
   }
     where
       go : (j : ℕ) → 1 ≤ j → j ≤ max p.walked stage → (stage ≡ j) ⊎ (stage ≡ j → ⊥) → is_done (Record.Done run stage ∷ log) j ≡ true
@@ -42,6 +43,19 @@ module _ (p : Progress) (log : List Record) (run stage after : ℕ) (is : p.begu
           let below : j ≤ p.walked = let near = bounds.1 in omega (arith, most, near, ne) in
           let was : is_done log j ≡ true = k.done j least below (other_at p stage j is (ne_eqb stage j ne)) in
           rw (done_other stage j (ne_eqb stage j ne) (visits log) (its_stage p log stage is k)) was
+
+      once : (j : ℕ) → (stage == j) || was_done log j ≡ true → (stage ≡ j) ⊎ (stage ≡ j → ⊥) → (1 ≤ j) × (j ≤ max p.walked stage)
+      once j done (inl same) = let least = bounds.0 in (omega (arith, least, same), omega (arith, same))
+      once j done (inr ne) =
+          let before : was_done log j ≡ true = rw (ne_eqb stage j ne) at done in
+          let within : (1 ≤ j) × (j ≤ p.walked) = k.done_once j before in
+          (within.0, let below = within.1 in omega (arith, below))
+
+      was : (j : ℕ) → 1 ≤ j → j ≤ max p.walked stage → (stage ≡ j) ⊎ (stage ≡ j → ⊥) → (stage == j) || was_done log j ≡ true
+      was j least most (inl same) = rw (eq-eqb stage j same) refl
+      was j least most (inr ne) =
+          let below : j ≤ p.walked = let near = bounds.1 in omega (arith, most, near, ne) in
+          rw (ne_eqb stage j ne) (k.walked_was j least below)
 
       fresh : (j : ℕ) → (j ≡ 0) ⊎ (max p.walked stage < j) → (stage ≡ j) ⊎ (stage ≡ j → ⊥) → last_visit j (Record.Done run stage ∷ log) ≡ None
       fresh j (inl zero) (inl same) = absurd (let least = bounds.0 in omega (arith, least, zero, same))
@@ -80,6 +94,7 @@ module _ (facts : Facts) (r : ℕ) (p : Progress) (log : List Record) (run stage
     due = λ j some free behind upto. d.due j some (other j (λ same. omega (arith, behind, same))) (let lower = (b.first within).0 in omega (arith, lower, behind)) upto;
     worked = λ j some free outside. go j some outside (cases_eq stage j);
     begun = tt;
+    bounded = let most = d.bounded in omega (arith, most);
   }
     where
       other : (j : ℕ) → (stage ≡ j → ⊥) → is_at p.begun j ≡ false
@@ -105,6 +120,7 @@ module _ (facts : Facts) (r : ℕ) (p : Progress) (log : List Record) (run stage
     due = λ j some free behind upto. due j some behind upto (cases_eq stage j);
     worked = λ j some free outside. worked j some outside (cases_eq stage j);
     begun = tt;
+    bounded = let most = d.bounded in omega (arith, most);
   }
     where
       other : (j : ℕ) → (stage ≡ j → ⊥) → is_at p.begun j ≡ false
@@ -125,6 +141,7 @@ done_keeps facts r run stage after p log is behind k = record {
   counts = record {
     attempts = k.counts.attempts;
     skips = k.counts.skips;
+    visits = k.counts.visits;
     left = k.counts.left;
     finished = k.counts.finished;
     last_aside = k.counts.last_aside;
@@ -165,12 +182,13 @@ finish_keeps facts run moment machines p log k = record {
   counts = record {
     attempts = k.counts.attempts;
     skips = k.counts.skips;
+    visits = k.counts.visits;
     left = k.counts.left;
     finished = refl;
     last_aside = k.counts.last_aside;
     few = let few : p.attempts + (p.skips + p.visits) ≤ length log = k.counts.few in omega (arith, few);
   };
-  stages = record { begun = k.stages.begun; next = k.stages.next; done = k.stages.done; unvisited = k.stages.unvisited };
+  stages = record { begun = k.stages.begun; next = k.stages.next; done = k.stages.done; unvisited = k.stages.unvisited; done_once = k.stages.done_once; walked_was = k.stages.walked_was };
   excuses = record {
     told = k.excuses.told;
     counted = k.excuses.counted;
@@ -180,7 +198,7 @@ finish_keeps facts run moment machines p log k = record {
     first = k.excuses.first;
     some = k.excuses.some;
   };
-  due = record { due = k.due.due; worked = k.due.worked; begun = begun_stays p.begun p.since_attempt k.due.begun };
+  due = record { due = k.due.due; worked = k.due.worked; begun = begun_stays p.begun p.since_attempt k.due.begun; bounded = k.due.bounded };
   answers = k.answers;
   codes = k.codes;
 }

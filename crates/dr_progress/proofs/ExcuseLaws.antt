@@ -1,15 +1,15 @@
 -- A run's progress behind one more Skip or Aside: a machine, or all pairs, are excused in the last visit of the begun stage.
-use Rattle.std.specs.Prelude.{◌≡◌, ◌≢◌, ℕ, ◌+◌, ◌<◌, ◌≤◌, ◌==◌, ◌⊎◌, Bool, true, false, ◌||◌, List, [], ◌∷◌, Option, Some, None, IfSome, cond, length}
+use Rattle.std.specs.Prelude.{◌≡◌, ◌≢◌, ℕ, ◌+◌, ◌<◌, ◌≤◌, ◌==◌, ◌⊎◌, Bool, true, false, ◌||◌, List, ◌∷◌, Option, Some, None, IfSome, cond, length}
 use Rattle.std.proofs.Common.{refl, sym, ◌∙◌, ap, inl, inr, arith}
 use Rattle.std.proofs.lemmas.Bool.{eq-eqb, ne_eqb, cases_eq}
 use Rattle.dr_meaning.specs.Types.{Record}
-use Rattle.dr_meaning.specs.Visits.{visits, excuse, begun, last_visit, is_excused, is_done, open_stage}
+use Rattle.dr_meaning.specs.Visits.{visits, excuse, last_visit, is_excused, open_stage}
 use Rattle.dr_meaning.specs.Next.{begun_since_attempt}
 use Rattle.dr_progress.specs.declared.facts.Facts.{Facts}
 use Rattle.dr_progress.specs.declared.facts.LastVisit.{LastVisit}
 use Rattle.dr_progress.specs.declared.progress.Progress.{Progress}
 use Rattle.dr_progress.specs.Facts.{excuse_at, visit_at, PutsExcuse, PutsVisit}
-use Rattle.dr_progress.specs.Progress.{is_at, is_last, is_still, is_excused_at, asides_in, asides_of, asides_at, is_due, IsUnvisited, KeepsCounts, KeepsStages, KeepsExcuses, KeepsDue, IsBegunSince, IsBegunBefore, IsBegunWhen, Keeps}
+use Rattle.dr_progress.specs.Progress.{is_at, is_last, is_still, is_excused_at, asides_in, asides_of, asides_at, was_done, is_due, KeepsStages, KeepsExcuses, KeepsDue, IsBegunWhen, Keeps}
 use Rattle.dr_progress.proofs.FactLaws.{excuses_stay, visits_stay, answers_stay, codes_stay}
 use Rattle.dr_progress.proofs.VisitLaws.{last_of, excuse_keeps_done, excuse_keeps_begun, excuse_other, excuse_here}
 
@@ -33,12 +33,14 @@ module _ (p : Progress) (log : List Record) (stage : ℕ) (is : p.begun ≡ Some
       go (inr ne) = absurd (let other : stage == j ≡ false = ne_eqb stage j ne in let there : stage == j ≡ true = rw is at own in cc)
 
   -- the stages, behind a record that excuses a machine
-  pub stages_excused : (machine : ℕ) (item : Record) → visits (item ∷ log) ≡ excuse machine (visits log) → (skips left : ℕ) (has_asides : Bool) (last : Option ℕ) → KeepsStages (excused_to p skips left has_asides last) (item ∷ log)
-  stages_excused machine item e skips left has_asides last = record {
+  pub stages_excused : (machine : ℕ) (item : Record) → visits (item ∷ log) ≡ excuse machine (visits log) → ((j : ℕ) → was_done (item ∷ log) j ≡ was_done log j) → (skips left : ℕ) (has_asides : Bool) (last : Option ℕ) → KeepsStages (excused_to p skips left has_asides last) (item ∷ log)
+  stages_excused machine item e same_done skips left has_asides last = record {
     begun = k.begun ∙ sym (ap (λ vs. open_stage vs) e ∙ excuse_keeps_begun machine (visits log));
     next = k.next;
     done = λ j least most free. rw e (excuse_keeps_done j machine (visits log) ∙ k.done j least most free);
     unvisited = λ j never. rw e (excuse_other stage j machine (apart_from j never.1) (visits log) log_begun ∙ k.unvisited j never);
+    done_once = λ j done. k.done_once j (sym (same_done j) ∙ done);
+    walked_was = λ j least most. same_done j ∙ k.walked_was j least most;
   }
 
   module _ (old new : Facts) (run machine : ℕ) (item : Record) (e : visits (item ∷ log) ≡ excuse machine (visits log)) (puts : excuse_at new run stage machine ≡ Some p.visits) (elsewhere : (s m : ℕ) → (s ≢ stage) ⊎ (m ≢ machine) → excuse_at new run s m ≡ excuse_at old run s m) (x : KeepsExcuses old run p log) where
@@ -115,6 +117,7 @@ module _ (p : Progress) (log : List Record) (stage : ℕ) (is : p.begun ≡ Some
     due = λ j some free behind within. same_due j ∙ d.due j (still j (apart_from j free) some) free behind within;
     worked = λ j some free outside. same_due j ∙ d.worked j (still j (apart_from j free) some) free outside;
     begun = rw is (at_stage p.since_attempt (rw is at d.begun));
+    bounded = d.bounded;
   }
     where
       still : (j : ℕ) → stage == j ≡ false → 0 < asides_at new run j → 0 < asides_at old run j
@@ -134,12 +137,13 @@ skip_keeps old new run stage machine p log is puts k = record {
   counts = record {
     attempts = k.counts.attempts;
     skips = rw k.counts.skips (omega arith);
+    visits = k.counts.visits;
     left = k.counts.left;
     finished = k.counts.finished;
     last_aside = k.counts.last_aside;
     few = let few : p.attempts + (p.skips + p.visits) ≤ length log = k.counts.few in omega (arith, few);
   };
-  stages = stages_excused p log stage is k.stages machine (Record.Skip run stage machine) refl (p.skips + 1) p.left p.has_asides p.last_aside;
+  stages = stages_excused p log stage is k.stages machine (Record.Skip run stage machine) refl (λ j. refl) (p.skips + 1) p.left p.has_asides p.last_aside;
   excuses = excuses_now p log stage is k.stages old new run machine (Record.Skip run stage machine) refl puts.here elsewhere k.excuses (λ j apart. visit_same j) (rw (visit_same stage) (k.excuses.last stage (rw is (eq-eqb stage stage refl)))) (λ none. sym (visit_same stage) ∙ none)
       (p.skips + 1) p.left p.has_asides p.last_aside (λ j. k.excuses.counted j ∙ sym (asides_same j)) (λ quiet j. asides_same j ∙ k.excuses.some quiet j);
   due = due_excused p log stage is k.stages old new run (Record.Skip run stage machine) (p.skips + 1) p.left p.has_asides p.last_aside (λ j. refl) refl (λ j apart. asides_same j) k.due;
@@ -163,12 +167,13 @@ aside_keeps old middle new run stage machine by p log is puts visits_put k = rec
   counts = record {
     attempts = k.counts.attempts;
     skips = k.counts.skips;
+    visits = k.counts.visits;
     left = ap (λ n. n + 1) k.counts.left;
     finished = k.counts.finished;
     last_aside = refl;
     few = let few : p.attempts + (p.skips + p.visits) ≤ length log = k.counts.few in omega (arith, few);
   };
-  stages = stages_excused p log stage is k.stages machine (Record.Aside run machine by) refl p.skips (p.left + 1) true (Some machine);
+  stages = stages_excused p log stage is k.stages machine (Record.Aside run machine by) refl (λ j. refl) p.skips (p.left + 1) true (Some machine);
   excuses = excuses_now p log stage is k.stages old new run machine (Record.Aside run machine by) refl here elsewhere k.excuses others (rw visits_put.here refl) (λ none. absurd (let some = visits_put.here in cc))
       p.skips (p.left + 1) true (Some machine) counted (λ quiet. absurd cc);
   due = due_excused p log stage is k.stages old new run (Record.Aside run machine by) p.skips (p.left + 1) true (Some machine) (λ j. refl) refl asides_others k.due;

@@ -1,12 +1,12 @@
 -- What a change of facts leaves.
-use Rattle.std.specs.Prelude.{◌≡◌, ◌≢◌, ℕ, ◌+◌, ◌≤◌, ◌==◌, ◌⊎◌, Bool, true, false, List, Option, Some, None}
+use Rattle.std.specs.Prelude.{◌≡◌, ℕ, true, List, Option, Some}
 use Rattle.std.specs.HashMap as map
 use Rattle.std.specs.HashSet as set
 use Rattle.std.proofs.Common.{refl, inl}
 use Rattle.dr_progress.specs.declared.facts.Facts.{Facts}
 use Rattle.dr_progress.specs.Facts.{same_machine, same_stage, same_step, same_code, excuse_at, visit_at, answer_at, is_coded_at, SaysOnlyOf, PutsExcuse, PutsVisit, PutsAnswer, PutsCode}
 use Rattle.dr_progress.proofs.KeyLaws.{two_differ, three_differ}
-use Rattle.dr_progress.specs.Progress.{is_last, is_still, is_excused_at, asides_at}
+use Rattle.dr_progress.specs.Progress.{is_still, is_excused_at}
 
 pub excuses_stay : (old new : Facts) → new.excuses ≡ old.excuses → (r s m : ℕ) → excuse_at new r s m ≡ excuse_at old r s m
 excuses_stay old new e r s m = rw e refl

@@ -4,7 +4,7 @@ use Rattle.std.specs.Prelude.{OnOk}
 use Rattle.std.specs.declared.result.Result.{Result}
 use Rattle.std.specs.Result.{IsOk}
 use Rattle.std.proofs.Common.{refl, sym, inl, inr}
-use Rattle.std.proofs.lemmas.Bool.{false≢true, eq-eqb, ne_eqb, cases_eq}
+use Rattle.std.proofs.lemmas.Bool.{false≢true, eq-eqb, ne_eqb}
 
 pub one_same : (a : ℕ) → a == a ≡ true
 one_same a = eq-eqb a a refl

@@ -8,3 +8,4 @@ pub mod DoneLaws
 pub mod ExcuseLaws
 pub mod DueLaws
 pub mod QuietLaws
+pub mod AlikeLaws

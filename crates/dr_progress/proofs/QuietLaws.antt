@@ -1,5 +1,5 @@
 -- A run's progress behind one more Answer or Code: no stage, and none who is excused, changes.
-use Rattle.std.specs.Prelude.{◌≡◌, ◌≢◌, ℕ, ◌+◌, ◌<◌, ◌≤◌, ◌==◌, ◌⊎◌, ◌||◌, ◌&&◌, Bool, true, false, List, ◌∷◌, Option, Some, None, IfSome, cond, length}
+use Rattle.std.specs.Prelude.{◌≡◌, ◌≢◌, ℕ, ◌+◌, ◌<◌, ◌≤◌, ◌⊎◌, Bool, true, false, List, ◌∷◌, Option, Some, None, IfSome, length}
 use Rattle.std.specs.List.{list_any}
 use Rattle.std.proofs.Common.{refl, sym, ◌∙◌, ap, inl, inr, arith}
 use Rattle.std.proofs.lemmas.Bool.{eq-eqb, ne_eqb, cases_eq}
@@ -10,19 +10,21 @@ use Rattle.dr_meaning.specs.Lawful.{is_code, last_aside}
 use Rattle.dr_meaning.specs.Reports.{attempts_in, skips_in, finished_in, answer_in}
 use Rattle.dr_progress.specs.declared.facts.Facts.{Facts}
 use Rattle.dr_progress.specs.declared.progress.Progress.{Progress}
-use Rattle.dr_progress.specs.Facts.{excuse_at, visit_at, answer_at, is_coded_at, SaysOnlyOf, PutsAnswer, PutsCode}
-use Rattle.dr_progress.specs.Progress.{is_at, is_excused_at, asides_of, asides_at, asides_in, left_in, is_due, KeepsCounts, KeepsStages, KeepsExcuses, KeepsDue, IsBegunWhen, Keeps}
+use Rattle.dr_progress.specs.Facts.{answer_at, is_coded_at, SaysOnlyOf, PutsAnswer, PutsCode}
+use Rattle.dr_progress.specs.Progress.{asides_of, asides_at, asides_in, left_in, begins_in, was_done, is_due, KeepsCounts, KeepsStages, KeepsExcuses, KeepsDue, IsBegunWhen, Keeps}
 use Rattle.dr_progress.proofs.FactLaws.{excuses_stay, visits_stay, answers_stay, codes_stay}
 
 -- a record of which neither counts nor visits tell
 pub record IsQuiet (item : Record) (log : List Record) : Type 0 where
   pub attempts : attempts_in (item ∷ log) ≡ attempts_in log
   pub skips : skips_in (item ∷ log) ≡ skips_in log
+  pub begins : begins_in (item ∷ log) ≡ begins_in log
   pub left : left_in (item ∷ log) ≡ left_in log
   pub finished : finished_in (item ∷ log) ≡ finished_in log
   pub last_aside : last_aside (item ∷ log) ≡ last_aside log
   pub visits : visits (item ∷ log) ≡ visits log
   pub asides : (stage : ℕ) → asides_in stage (item ∷ log) ≡ asides_in stage log
+  pub done : (stage : ℕ) → was_done (item ∷ log) stage ≡ was_done log stage
   pub due : (stage : ℕ) → is_due (item ∷ log) stage ≡ is_due log stage
   pub since : (stage : ℕ) → begun_since_attempt (item ∷ log) stage ≡ begun_since_attempt log stage
 
@@ -31,6 +33,7 @@ module _ (old new : Facts) (run : ℕ) (p : Progress) (log : List Record) (item 
   counts = record {
     attempts = k.counts.attempts ∙ sym quiet.attempts;
     skips = k.counts.skips ∙ sym quiet.skips;
+    visits = k.counts.visits ∙ sym quiet.begins;
     left = k.counts.left ∙ sym quiet.left;
     finished = k.counts.finished ∙ sym quiet.finished;
     last_aside = k.counts.last_aside ∙ sym quiet.last_aside;
@@ -43,6 +46,8 @@ module _ (old new : Facts) (run : ℕ) (p : Progress) (log : List Record) (item 
     next = k.stages.next;
     done = λ j least most free. rw quiet.visits (k.stages.done j least most free);
     unvisited = λ j never. rw quiet.visits (k.stages.unvisited j never);
+    done_once = λ j done. k.stages.done_once j (sym (quiet.done j) ∙ done);
+    walked_was = λ j least most. quiet.done j ∙ k.stages.walked_was j least most;
   }
 
   asides_same : (j : ℕ) → asides_at new run j ≡ asides_at old run j
@@ -81,6 +86,7 @@ module _ (old new : Facts) (run : ℕ) (p : Progress) (log : List Record) (item 
     due = λ j some free behind within. quiet.due j ∙ k.due.due j (still j some) free behind within;
     worked = λ j some free outside. quiet.due j ∙ k.due.worked j (still j some) free outside;
     begun = at_begun_stage p.since_attempt p.begun k.due.begun;
+    bounded = k.due.bounded;
   }
 
 pub answer_keeps : (old new : Facts) (run step : ℕ) (text : List ℕ) (p : Progress) (log : List Record) → PutsAnswer old new run step text → Keeps old run p log → Keeps new run p (Record.Answer run step text ∷ log)
@@ -97,7 +103,7 @@ answer_keeps old new run step text p log puts k = record {
     item = Record.Answer run step text
 
     quiet : IsQuiet (Record.Answer run step text) log
-    quiet = record { attempts = refl; skips = refl; left = refl; finished = refl; last_aside = refl; visits = refl; asides = λ j. refl; due = λ j. refl; since = λ j. refl }
+    quiet = record { attempts = refl; skips = refl; begins = refl; left = refl; finished = refl; last_aside = refl; visits = refl; asides = λ j. refl; done = λ j. refl; due = λ j. refl; since = λ j. refl }
 
     answered : (s : ℕ) → (step ≡ s) ⊎ (step ≡ s → ⊥) → answer_in s (Record.Answer run step text ∷ log) ≡ answer_at new run s
     answered s (inl same) = rw (← same) (rw (eq-eqb step step refl) (sym puts.here))
@@ -117,7 +123,7 @@ code_keeps old new run token machine code p log puts k = record {
     item = Record.Code run token machine code
 
     quiet : IsQuiet (Record.Code run token machine code) log
-    quiet = record { attempts = refl; skips = refl; left = refl; finished = refl; last_aside = refl; visits = refl; asides = λ j. refl; due = λ j. refl; since = λ j. refl }
+    quiet = record { attempts = refl; skips = refl; begins = refl; left = refl; finished = refl; last_aside = refl; visits = refl; asides = λ j. refl; done = λ j. refl; due = λ j. refl; since = λ j. refl }
 
     stays : (t m : ℕ) → (t ≢ token) ⊎ (m ≢ machine) → list_any (is_code t m) log ≡ is_coded_at new run t m
     stays t m out = k.codes t m ∙ sym (puts.elsewhere run t m (inr out))

@@ -1,5 +1,5 @@
 -- What facts say, by run.
-use Rattle.std.specs.Prelude.{◌≡◌, ◌≢◌, ℕ, ◌+◌, ◌≤◌, ◌==◌, Bool, true, false, ◌&&◌, ◌⊎◌, Option, Some, None, List, min}
+use Rattle.std.specs.Prelude.{◌≡◌, ◌≢◌, ℕ, ◌==◌, Bool, true, false, ◌&&◌, ◌⊎◌, Option, Some, None, List, min}
 use Rattle.std.specs.HashMap as map
 use Rattle.std.specs.HashSet as set
 use Rattle.dr_progress.specs.declared.facts.MachineKey.{MachineKey}

@@ -1,5 +1,5 @@
 -- What is kept of a run's records.
-use Rattle.std.specs.Prelude.{◌≡◌, ◌≢◌, ℕ, ◌+◌, ◌-◌, ◌<◌, ◌≤◌, ◌==◌, ◌⊎◌, Bool, true, false, ◌&&◌, not, List, [], ◌∷◌, Option, Some, None, IfSome, length, if◌then◌else◌}
+use Rattle.std.specs.Prelude.{◌≡◌, ◌≢◌, ℕ, ◌+◌, ◌-◌, ◌<◌, ◌≤◌, ◌==◌, ◌⊎◌, Bool, true, false, ◌&&◌, not, List, [], ◌∷◌, Option, Some, None, IfSome, length, filter, if◌then◌else◌}
 use Rattle.std.specs.List.{list_any}
 use Rattle.dr_meaning.specs.Types.{Record}
 use Rattle.dr_meaning.specs.Visits.{last_visit, is_excused, is_done, begun}
@@ -53,6 +53,24 @@ asides_of (Some last) = last.asides
 abbrev pub asides_at : Facts → (run stage : ℕ) → ℕ
 asides_at facts run stage = asides_of (visit_at facts run stage)
 
+-- whether a record is a Begin
+abbrev pub is_begin : Record → Bool
+is_begin (Record.Begin run stage) = true
+is_begin _ = false
+
+-- how many Begins a log has
+abbrev pub begins_in : List Record → ℕ
+begins_in log = length (filter is_begin log)
+
+-- whether a record is a Done of a stage
+abbrev pub is_done_of : ℕ → Record → Bool
+is_done_of stage (Record.Done run n) = n == stage
+is_done_of stage _ = false
+
+-- whether a stage was done at least once
+abbrev pub was_done : List Record → ℕ → Bool
+was_done log stage = list_any (is_done_of stage) log
+
 -- a stage that was never begun
 abbrev pub IsUnvisited : Progress → ℕ → Type 0
 IsUnvisited progress stage = ((stage ≡ 0) ⊎ (progress.walked < stage)) × (is_at progress.begun stage ≡ false)
@@ -61,6 +79,7 @@ IsUnvisited progress stage = ((stage ≡ 0) ⊎ (progress.walked < stage)) × (i
 pub record KeepsCounts (progress : Progress) (log : List Record) : Type 0 where
   pub attempts : progress.attempts ≡ attempts_in log
   pub skips : progress.skips ≡ skips_in log
+  pub visits : progress.visits ≡ begins_in log
   pub left : progress.left ≡ left_in log
   pub finished : progress.finished ≡ finished_in log
   pub last_aside : progress.last_aside ≡ last_aside log
@@ -72,6 +91,9 @@ pub record KeepsStages (progress : Progress) (log : List Record) : Type 0 where
   pub next : IfSome progress.begun (λ stage. (1 ≤ stage) × (stage ≤ progress.walked + 1))
   pub done : (stage : ℕ) → 1 ≤ stage → stage ≤ progress.walked → is_at progress.begun stage ≡ false → is_done log stage ≡ true
   pub unvisited : (stage : ℕ) → IsUnvisited progress stage → last_visit stage log ≡ None
+  -- those that were done at least once are the first ones, also while one of them is begun once more
+  pub done_once : (stage : ℕ) → was_done log stage ≡ true → (1 ≤ stage) × (stage ≤ progress.walked)
+  pub walked_was : (stage : ℕ) → 1 ≤ stage → stage ≤ progress.walked → was_done log stage ≡ true
 
 -- who is excused in the last visit of a stage
 pub record KeepsExcuses (facts : Facts) (run : ℕ) (progress : Progress) (log : List Record) : Type 0 where
@@ -110,6 +132,8 @@ pub record KeepsDue (facts : Facts) (run : ℕ) (progress : Progress) (log : Lis
   pub due : (stage : ℕ) → 0 < asides_at facts run stage → is_at progress.begun stage ≡ false → progress.again_after < stage → stage ≤ progress.again_upto → is_due log stage ≡ true
   pub worked : (stage : ℕ) → 0 < asides_at facts run stage → is_at progress.begun stage ≡ false → (stage ≤ progress.again_after) ⊎ (progress.again_upto < stage) → is_due log stage ≡ false
   pub begun : IfSome progress.begun (IsBegunWhen facts run progress.again_after progress.again_upto log progress.since_attempt)
+  -- none that waits is further than the stage behind the walked ones
+  pub bounded : progress.again_upto ≤ progress.walked + 1
 
 -- what is kept of a run's records
 pub record Keeps (facts : Facts) (run : ℕ) (progress : Progress) (log : List Record) : Type 0 where

@@ -12,7 +12,7 @@ use Rattle.dr_meaning.specs.declared.stage.Stage.{Stage}
 use Rattle.dr_meaning.specs.Visits.{all}
 use Rattle.dr_meaning.specs.Runs.{Run, root}
 use Rattle.dr_meaning.specs.Meaning.{is_left}
-use Rattle.dr_meaning.specs.Lawful.{is_coded, token_of, tokens_from, tokens_of_machine, machine_in_plan, HasCodes}
+use Rattle.dr_meaning.specs.Lawful.{is_coded, token_of, tokens_from, tokens_of_machine, machine_in_plan, HasCodes, IsCause}
 use Rattle.dr_walk.specs.Taking.{HasMachineCodes}
 
 -- the codes of a Command stage: its one
@@ -36,3 +36,8 @@ cause_alone run after machine by none = (λ e. inr (none, eqb-true _ _ e), back)
     back : (IsTrue (has after by) × IsTrue (is_left run by) × AllByRecursion (λ d. is_left run d ≡ true → by ≤ d) after) ⊎ (AllByRecursion (λ d. is_left run d ≡ false) after × (by ≡ machine)) → IsTrue (by == machine)
     back (inl (among, left, least)) = absurd (false≢true (sym (pick (λ d. is_left run d ≡ false) after by none among) ∙ left))
     back (inr (others, is)) = eq-eqb _ _ is
+
+-- what is told of the dependencies of a machine's row is told of the machine
+pub cause_of_row : (run : Run) (machine by : ℕ) (row : PlanMachine) (after : List ℕ) (b : Bool) → machine_in_plan run.plan machine ≡ Some row → after ≡ row.after
+    → IsTrue b ↔ ((IsTrue (has after by) × IsTrue (is_left run by) × AllByRecursion (λ d. is_left run d ≡ true → by ≤ d) after) ⊎ (AllByRecursion (λ d. is_left run d ≡ false) after × (by ≡ machine))) → IsTrue b ↔ IsCause run machine by
+cause_of_row run machine by row after b at same told = let own = rw same at told in rw at own

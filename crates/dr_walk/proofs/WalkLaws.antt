@@ -25,7 +25,7 @@ use Rattle.dr_walk.proofs.AscendLaws.{fewer, as_many}
 use Rattle.dr_walk.proofs.LeftLaws.{left_at, not_left}
 
 -- whether a log answers a step
-answered_in : (step : ℕ) (log : List Record) → list_any (is_answer step) log ≡ is_some (answer_in step log)
+pub answered_in : (step : ℕ) (log : List Record) → list_any (is_answer step) log ≡ is_some (answer_in step log)
 answered_in step [] = refl
 answered_in step (Record.Answer run s text ∷ log) = go (s == step) (answered_in step log)
   where

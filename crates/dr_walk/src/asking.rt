@@ -19,8 +19,7 @@ impl<'a> Walk<'a> {
     /// The run's root, by which the tokens of its commands go: the migration that it took over, if it is
     /// a failover that took one over, else the run itself.
     pub fn root(&self) -> u32
-        ghost run: { Run }
-        ensures { IsWalkOf self.now run → result ≡ root run }
+        ensures { (run : Run) → IsWalkOf self.now run → result ≡ root run }
     {
         match self.op {
             Op::Failover if self.over != 0 => self.over,
@@ -30,24 +29,21 @@ impl<'a> Walk<'a> {
 
     /// The stage that is begun and not done.
     pub fn begun(&self) -> Option<u32>
-        ghost run: { Run }
-        ensures { IsWalkOf self.now run → result ≡ begun run.log }
+        ensures { (run : Run) → IsWalkOf self.now run → result ≡ begun run.log }
     {
         self.progress.begun
     }
 
     /// Whether a stage is done: a Done of it follows its last Begin.
     pub fn is_done(&self, stage: u32) -> bool
-        ghost run: { Run }
-        ensures { IsWalkOf self.now run → result ≡ is_done run.log stage }
+        ensures { (run : Run) → IsWalkOf self.now run → result ≡ is_done run.log stage }
     {
         self.progress.is_done(stage)
     }
 
     // The first stage that was never done.
     fn first_unwalked(&self) -> Option<u32>
-        ghost run: { Run }
-        ensures told { IsWalkOf self.now run → begun run.log ≡ None → result ≡ least_undone run }
+        ensures told { (run : Run) → IsWalkOf self.now run → begun run.log ≡ None → result ≡ least_undone run }
         ensures first { IfSome result (λ stage. stage ≡ self.now.progress.now.walked + 1) }
     {
         if self.progress.walked < self.route.len() {
@@ -59,8 +55,7 @@ impl<'a> Walk<'a> {
 
     /// The least stage that isn't done.
     pub fn least_undone(&self) -> Option<u32>
-        ghost run: { Run }
-        ensures { IsWalkOf self.now run → result ≡ least_undone run }
+        ensures { (run : Run) → IsWalkOf self.now run → result ≡ least_undone run }
     {
         match self.progress.begun {
             Some(stage) => Some(stage),
@@ -71,9 +66,8 @@ impl<'a> Walk<'a> {
     /// The next stage: the one that is begun and not done, else the least to be worked once more, else
     /// the least that isn't done.
     pub fn next(&self) -> Option<u32>
-        ghost run: { Run }
-        ensures told { IsWalkOf self.now run → result ≡ next_stage run }
-        ensures follows { IsWalkOf self.now run → begun run.log ≡ None → IfSome result (λ stage. MayBeginAt self.now.facts.now self.now.run self.now.progress.now stage) }
+        ensures told { (run : Run) → IsWalkOf self.now run → result ≡ next_stage run }
+        ensures follows { (run : Run) → IsWalkOf self.now run → begun run.log ≡ None → IfSome result (λ stage. MayBeginAt self.now.facts.now self.now.run self.now.progress.now stage) }
     {
         if let Some(stage) = self.progress.begun {
             return Some(stage);
@@ -86,16 +80,14 @@ impl<'a> Walk<'a> {
 
     /// Whether a machine, or all pairs, were skipped or set aside in a stage since its last Begin.
     pub fn is_skipped(&self, stage: u32, machine: u32) -> bool
-        ghost run: { Run }
-        ensures { IsWalkOf self.now run → result ≡ is_skipped run.log stage machine }
+        ensures { (run : Run) → IsWalkOf self.now run → result ≡ is_skipped run.log stage machine }
     {
         self.facts.is_excused(self.run, stage, machine)
     }
 
     /// Whether a machine is left: an Aside of it is later than the last Begin of its Start stage.
     pub fn is_left(&self, machine: u32) -> bool
-        ghost run: { Run }
-        ensures { IsWalkOf self.now run → result ≡ is_left run machine }
+        ensures { (run : Run) → IsWalkOf self.now run → result ≡ is_left run machine }
     {
         match self.route.start(machine) {
             Some(stage) => self.facts.is_excused(self.run, stage, machine),
@@ -105,16 +97,14 @@ impl<'a> Walk<'a> {
 
     /// Whether the run has the code of this token and machine.
     pub fn is_coded(&self, token: u64, machine: u32) -> bool
-        ghost run: { Run }
-        ensures { IsWalkOf self.now run → result ≡ is_coded run token machine }
+        ensures { (run : Run) → IsWalkOf self.now run → result ≡ is_coded run token machine }
     {
         self.facts.is_coded(self.run, token, machine)
     }
 
     /// Whether the run, or the migration that it took over, has an Answer for the step.
     pub fn is_answered(&self, step: u32) -> bool
-        ghost run: { Run }
-        ensures { IsWalkOf self.now run → result ≡ is_answered run step }
+        ensures { (run : Run) → IsWalkOf self.now run → result ≡ is_answered run step }
     {
         if self.facts.answer(self.run, step).is_some() {
             return true;
@@ -127,8 +117,7 @@ impl<'a> Walk<'a> {
 
     /// The kind of a stage. A number beyond the last stage stands for a prompt.
     pub fn kind(&self, number: u32) -> StageKind
-        ghost run: { Run }
-        ensures { IsWalkOf self.now run → result ≡ (stage_at (stages_of run) number).kind }
+        ensures { (run : Run) → IsWalkOf self.now run → result ≡ (stage_at (stages_of run) number).kind }
     {
         match self.route.stage(number) {
             Some(stage) => stage.kind,
@@ -148,16 +137,14 @@ impl<'a> Walk<'a> {
 
     /// Whether a stage, a wave, has the machine.
     pub fn has_machine(&self, number: u32, machine: u32) -> bool
-        ghost run: { Run }
-        ensures { IsWalkOf self.now run → result ≡ has (stage_at (stages_of run) number).machines machine }
+        ensures { (run : Run) → IsWalkOf self.now run → result ≡ has (stage_at (stages_of run) number).machines machine }
     {
         lookups::has(self.machines(number), machine)
     }
 
     /// The step of a stage.
     pub fn step(&self, number: u32) -> u32
-        ghost run: { Run }
-        ensures { IsWalkOf self.now run → result ≡ (stage_at (stages_of run) number).step }
+        ensures { (run : Run) → IsWalkOf self.now run → result ≡ (stage_at (stages_of run) number).step }
     {
         match self.route.stage(number) {
             Some(stage) => stage.step,

@@ -76,8 +76,7 @@ fn is_ascending(machines: &[u32]) -> bool
 impl<'a> Walk<'a> {
     // Whether this stage is begun and not done.
     fn is_begun(&self, stage: u32) -> bool
-        ghost run: { Run }
-        ensures { IsWalkOf self.now run → IsTrue result ↔ (begun run.log ≡ Some stage) }
+        ensures { (run : Run) → IsWalkOf self.now run → IsTrue result ↔ (begun run.log ≡ Some stage) }
     {
         match self.begun() {
             Some(n) => n == stage,
@@ -87,9 +86,8 @@ impl<'a> Walk<'a> {
 
     // Whether this is the stage that the run works next.
     fn is_next(&self, stage: u32) -> bool
-        ghost run: { Run }
-        ensures told { IsWalkOf self.now run → IsTrue result ↔ (next_stage run ≡ Some stage) }
-        ensures follows { IsWalkOf self.now run → begun run.log ≡ None → IsTrue result → MayBeginAt self.now.facts.now self.now.run self.now.progress.now stage }
+        ensures told { (run : Run) → IsWalkOf self.now run → IsTrue result ↔ (next_stage run ≡ Some stage) }
+        ensures follows { (run : Run) → IsWalkOf self.now run → begun run.log ≡ None → IsTrue result → MayBeginAt self.now.facts.now self.now.run self.now.progress.now stage }
     {
         match self.next() {
             Some(n) => n == stage,
@@ -99,16 +97,14 @@ impl<'a> Walk<'a> {
 
     // Whether the run is a failover.
     fn is_failover(&self) -> bool
-        ghost run: { Run }
-        ensures { IsWalkOf self.now run → IsTrue result ↔ (op run ≡ OpValue.Failover) }
+        ensures { (run : Run) → IsWalkOf self.now run → IsTrue result ↔ (op run ≡ OpValue.Failover) }
     {
         matches!(self.op, Op::Failover)
     }
 
     // Whether the stage is no prompt, or has its Answer.
     fn is_answered_stage(&self, stage: u32) -> bool
-        ghost run: { Run }
-        ensures { IsWalkOf self.now run → IsTrue result ↔ IsAnsweredStage run (stage_at (stages_of run) stage) }
+        ensures { (run : Run) → IsWalkOf self.now run → IsTrue result ↔ IsAnsweredStage run (stage_at (stages_of run) stage) }
     {
         match self.kind(stage) {
             StageKind::Prompt => self.is_answered(self.step(stage)),
@@ -119,25 +115,22 @@ impl<'a> Walk<'a> {
     /// Whether a Begin of the stage may come: it is the next, none is begun without being done, and
     /// a prompt has its Answer.
     pub fn may_begin(&self, stage: u32) -> bool
-        ghost run: { Run }
-        ensures told { IsWalkOf self.now run → IsTrue result ↔ MayBegin run stage }
-        ensures follows { IsWalkOf self.now run → IsTrue result → MayBeginAt self.now.facts.now self.now.run self.now.progress.now stage }
+        ensures told { (run : Run) → IsWalkOf self.now run → IsTrue result ↔ MayBegin run stage }
+        ensures follows { (run : Run) → IsWalkOf self.now run → IsTrue result → MayBeginAt self.now.facts.now self.now.run self.now.progress.now stage }
     {
         self.begun().is_none() && self.is_next(stage) && self.is_answered_stage(stage)
     }
 
     // Whether the code of this command is there, if there is the command.
     fn is_run(&self, machine: &PlanMachine, index: u32, command: &Option<Name>) -> bool
-        ghost run: { Run }
-        ensures { IsWalkOf self.now run → IsTrue result ↔ AllByRecursion (λ t. IsTrue (is_coded run t machine.now.machine)) (tokens_from (root run) index (command.now ∷ [])) }
+        ensures { (run : Run) → IsWalkOf self.now run → IsTrue result ↔ AllByRecursion (λ t. IsTrue (is_coded run t machine.now.machine)) (tokens_from (root run) index (command.now ∷ [])) }
     {
         command.is_none() || self.is_coded(token_of(self.root(), index), machine.machine)
     }
 
     // Whether the codes of a machine's commands are there.
     fn are_run(&self, machine: &PlanMachine) -> bool
-        ghost run: { Run }
-        ensures { IsWalkOf self.now run → IsTrue result ↔ AllByRecursion (λ t. IsTrue (is_coded run t machine.now.machine)) (tokens_from (root run) 0 machine.now.commands) }
+        ensures { (run : Run) → IsWalkOf self.now run → IsTrue result ↔ AllByRecursion (λ t. IsTrue (is_coded run t machine.now.machine)) (tokens_from (root run) 0 machine.now.commands) }
     {
         self.is_run(machine, 0, &machine.commands[0])
             && self.is_run(machine, 1, &machine.commands[1])
@@ -147,8 +140,7 @@ impl<'a> Walk<'a> {
 
     // Whether a machine is left, or has the codes of its commands.
     fn has_machine_codes(&self, plan: &Plan, machine: u32) -> bool
-        ghost run: { Run }
-        ensures { plan.now ≡ run.plan → IsWalkOf self.now run → IsTrue result ↔ HasMachineCodes run machine }
+        ensures { (run : Run) → plan.now ≡ run.plan → IsWalkOf self.now run → IsTrue result ↔ HasMachineCodes run machine }
     {
         if self.is_left(machine) {
             return true;
@@ -161,8 +153,7 @@ impl<'a> Walk<'a> {
 
     // The same of each of these.
     fn have_machine_codes(&self, plan: &Plan, machines: &[u32]) -> bool
-        ghost run: { Run }
-        ensures { plan.now ≡ run.plan → IsWalkOf self.now run → IsTrue result ↔ AllByRecursion (HasMachineCodes run) machines.now }
+        ensures { (run : Run) → plan.now ≡ run.plan → IsWalkOf self.now run → IsTrue result ↔ AllByRecursion (HasMachineCodes run) machines.now }
     {
         let mut coded = true;
         for m in machines {
@@ -173,8 +164,7 @@ impl<'a> Walk<'a> {
 
     // Whether the run has the codes of a stage's commands.
     fn has_codes(&self, plan: &Plan, stage: u32) -> bool
-        ghost run: { Run }
-        ensures { plan.now ≡ run.plan → IsWalkOf self.now run → IsTrue result ↔ HasCodes run (stage_at (stages_of run) stage).kind (stage_at (stages_of run) stage) }
+        ensures { (run : Run) → plan.now ≡ run.plan → IsWalkOf self.now run → IsTrue result ↔ HasCodes run (stage_at (stages_of run) stage).kind (stage_at (stages_of run) stage) }
     {
         match self.kind(stage) {
             StageKind::Command => self.is_coded(token_of(self.root(), self.step(stage)), ALL),
@@ -185,16 +175,14 @@ impl<'a> Walk<'a> {
 
     /// Whether a Done of the stage may come: it is begun, and has the codes of its commands.
     pub fn may_done(&self, plan: &Plan, stage: u32) -> bool
-        ghost run: { Run }
-        ensures { plan.now ≡ run.plan → IsWalkOf self.now run → IsTrue result ↔ MayDone run stage }
+        ensures { (run : Run) → plan.now ≡ run.plan → IsWalkOf self.now run → IsTrue result ↔ MayDone run stage }
     {
         self.is_begun(stage) && self.has_codes(plan, stage)
     }
 
     /// Whether a Skip may come: in a failover, of the begun stage, once since its Begin.
     pub fn may_skip(&self, stage: u32, machine: u32) -> bool
-        ghost run: { Run }
-        ensures { IsWalkOf self.now run → IsTrue result ↔ MaySkip run stage machine }
+        ensures { (run : Run) → IsWalkOf self.now run → IsTrue result ↔ MaySkip run stage machine }
     {
         self.is_failover()
             && self.is_begun(stage)
@@ -204,8 +192,7 @@ impl<'a> Walk<'a> {
 
     // Whether none of these machines is left.
     fn none_left(&self, machines: &[u32]) -> bool
-        ghost run: { Run }
-        ensures { IsWalkOf self.now run → IsTrue result ↔ AllByRecursion (λ d. is_left run d ≡ false) machines.now }
+        ensures { (run : Run) → IsWalkOf self.now run → IsTrue result ↔ AllByRecursion (λ d. is_left run d ≡ false) machines.now }
     {
         let mut none = true;
         for d in machines {
@@ -216,8 +203,7 @@ impl<'a> Walk<'a> {
 
     // Whether none of these machines that is left is before this one.
     fn none_left_before(&self, machines: &[u32], by: u32) -> bool
-        ghost run: { Run }
-        ensures { IsWalkOf self.now run → IsTrue result ↔ AllByRecursion (λ d. is_left run d ≡ true → by ≤ d) machines.now }
+        ensures { (run : Run) → IsWalkOf self.now run → IsTrue result ↔ AllByRecursion (λ d. is_left run d ≡ true → by ≤ d) machines.now }
     {
         let mut none = true;
         for d in machines {
@@ -228,8 +214,7 @@ impl<'a> Walk<'a> {
 
     // Whether a machine is set aside by this one: its least dependency that is left, or itself.
     fn is_cause_among(&self, after: &[u32], machine: u32, by: u32) -> bool
-        ghost run: { Run }
-        ensures { IsWalkOf self.now run → IsTrue result ↔ ((IsTrue (has after.now by) × IsTrue (is_left run by) × AllByRecursion (λ d. is_left run d ≡ true → by ≤ d) after.now) ⊎ (AllByRecursion (λ d. is_left run d ≡ false) after.now × (by ≡ machine))) }
+        ensures { (run : Run) → IsWalkOf self.now run → IsTrue result ↔ ((IsTrue (has after.now by) × IsTrue (is_left run by) × AllByRecursion (λ d. is_left run d ≡ true → by ≤ d) after.now) ⊎ (AllByRecursion (λ d. is_left run d ≡ false) after.now × (by ≡ machine))) }
     {
         if self.none_left(after) {
             by == machine
@@ -240,8 +225,7 @@ impl<'a> Walk<'a> {
 
     // The same by what the plan says of the machine.
     fn is_cause(&self, plan: &Plan, machine: u32, by: u32) -> bool
-        ghost run: { Run }
-        ensures { plan.now ≡ run.plan → IsWalkOf self.now run → IsTrue result ↔ IsCause run machine by }
+        ensures { (run : Run) → plan.now ≡ run.plan → IsWalkOf self.now run → IsTrue result ↔ IsCause run machine by }
     {
         match lookups::machine_in_plan(plan, machine) {
             Some(row) => self.is_cause_among(row.after.as_slice(), machine, by),
@@ -251,8 +235,7 @@ impl<'a> Walk<'a> {
 
     // Whether the machine is one of the stage, a Start stage, and isn't excused in it yet.
     fn may_excuse(&self, stage: u32, machine: u32) -> bool
-        ghost run: { Run }
-        ensures { IsWalkOf self.now run → IsTrue result ↔ MayExcuse run stage machine }
+        ensures { (run : Run) → IsWalkOf self.now run → IsTrue result ↔ MayExcuse run stage machine }
     {
         matches!(self.kind(stage), StageKind::Start)
             && self.has_machine(stage, machine)
@@ -262,8 +245,7 @@ impl<'a> Walk<'a> {
     /// Whether an Aside may come: in a failover, of a machine of the begun Start stage, once since its
     /// Begin, by its cause, and ascending since the later of that Begin and the last Attempt.
     pub fn may_set_aside(&self, plan: &Plan, machine: u32, by: u32) -> bool
-        ghost run: { Run }
-        ensures { plan.now ≡ run.plan → IsWalkOf self.now run → IsTrue result ↔ ((stage : ℕ) × MaySetAside run machine by stage) }
+        ensures { (run : Run) → plan.now ≡ run.plan → IsWalkOf self.now run → IsTrue result ↔ ((stage : ℕ) × MaySetAside run machine by stage) }
     {
         match self.begun() {
             Some(stage) => {
@@ -278,8 +260,7 @@ impl<'a> Walk<'a> {
 
     // Whether the stage is a prompt of this step.
     fn is_prompt_of(&self, stage: u32, step: u32) -> bool
-        ghost run: { Run }
-        ensures { IsWalkOf self.now run → IsTrue result ↔ IsPromptOf run stage step }
+        ensures { (run : Run) → IsWalkOf self.now run → IsTrue result ↔ IsPromptOf run stage step }
     {
         matches!(self.kind(stage), StageKind::Prompt) && self.step(stage) == step
     }
@@ -287,8 +268,7 @@ impl<'a> Walk<'a> {
     /// Whether an Answer may come: to the last run of its plan, whose next stage is this prompt without
     /// an Answer. The caller says whether the run is the last of its plan.
     pub fn may_answer(&self, is_last: bool, step: u32) -> bool
-        ghost run: { Run }
-        ensures { IsWalkOf self.now run → IsTrue result ↔ (IsTrue is_last × ((stage : ℕ) × IsUnanswered run step stage)) }
+        ensures { (run : Run) → IsWalkOf self.now run → IsTrue result ↔ (IsTrue is_last × ((stage : ℕ) × IsUnanswered run step stage)) }
     {
         match self.next() {
             Some(stage) => { is_last && self.is_prompt_of(stage, step) && !self.is_answered(step) }
@@ -298,8 +278,7 @@ impl<'a> Walk<'a> {
 
     // Whether a machine has a command of this token.
     fn has_command(&self, plan: &Plan, machine: u32, token: u64) -> bool
-        ghost run: { Run }
-        ensures { plan.now ≡ run.plan → IsWalkOf self.now run → result ≡ has (tokens run machine) token }
+        ensures { (run : Run) → plan.now ≡ run.plan → IsWalkOf self.now run → result ≡ has (tokens run machine) token }
     {
         match lookups::machine_in_plan(plan, machine) {
             Some(row) => has_token(self.root(), &row.commands, token),
@@ -309,8 +288,7 @@ impl<'a> Walk<'a> {
 
     // Whether a token is that of a command of the stage: of its step, or of one of its machines.
     fn is_command_of(&self, plan: &Plan, stage: u32, token: u64, machine: u32) -> bool
-        ghost run: { Run }
-        ensures { plan.now ≡ run.plan → IsWalkOf self.now run → IsTrue result ↔ IsCommandOf run (stage_at (stages_of run) stage) (stage_at (stages_of run) stage).kind token machine }
+        ensures { (run : Run) → plan.now ≡ run.plan → IsWalkOf self.now run → IsTrue result ↔ IsCommandOf run (stage_at (stages_of run) stage) (stage_at (stages_of run) stage).kind token machine }
     {
         match self.kind(stage) {
             StageKind::Command => {
@@ -325,8 +303,7 @@ impl<'a> Walk<'a> {
 
     /// Whether a Code may come: of a command of the begun stage, once in the run.
     pub fn may_code(&self, plan: &Plan, token: u64, machine: u32) -> bool
-        ghost run: { Run }
-        ensures { plan.now ≡ run.plan → IsWalkOf self.now run → IsTrue result ↔ ((stage : ℕ) × MayCode run token machine stage) }
+        ensures { (run : Run) → plan.now ≡ run.plan → IsWalkOf self.now run → IsTrue result ↔ ((stage : ℕ) × MayCode run token machine stage) }
     {
         match self.begun() {
             Some(stage) => {
@@ -338,8 +315,7 @@ impl<'a> Walk<'a> {
 
     // Whether each of these machines is left.
     fn all_left(&self, machines: &[u32]) -> bool
-        ghost run: { Run }
-        ensures { IsWalkOf self.now run → IsTrue result ↔ AllByRecursion (λ m. IsTrue (is_left run m)) machines.now }
+        ensures { (run : Run) → IsWalkOf self.now run → IsTrue result ↔ AllByRecursion (λ m. IsTrue (is_left run m)) machines.now }
     {
         let mut all = true;
         for m in machines {
@@ -350,16 +326,14 @@ impl<'a> Walk<'a> {
 
     // Whether these, which ascend, are the machines that are left: each is, and there are as many.
     fn names_left(&self, machines: &[u32]) -> bool
-        ghost run: { Run }
-        ensures { IsWalkOf self.now run → IsStrictlyIncreasing machines.now → IsTrue result ↔ ((m : ℕ) → has machines.now m ≡ is_left run m) }
+        ensures { (run : Run) → IsWalkOf self.now run → IsStrictlyIncreasing machines.now → IsTrue result ↔ ((m : ℕ) → has machines.now m ≡ is_left run m) }
     {
         machines.len() == self.progress.left as usize && self.all_left(machines)
     }
 
     // Whether the run may finish with these machines left: only a failover may with some.
     fn may_leave(&self, machines: &[u32]) -> bool
-        ghost run: { Run }
-        ensures { IsWalkOf self.now run → IsTrue result ↔ (machines.now ≢ [] → op run ≡ OpValue.Failover) }
+        ensures { (run : Run) → IsWalkOf self.now run → IsTrue result ↔ (machines.now ≢ [] → op run ≡ OpValue.Failover) }
     {
         machines.is_empty() || self.is_failover()
     }
@@ -367,8 +341,7 @@ impl<'a> Walk<'a> {
     /// Whether a Finish may come: every stage is done, and it names the machines that are left, of
     /// which only a failover has some.
     pub fn may_finish(&self, machines: &[u32]) -> bool
-        ghost run: { Run }
-        ensures { IsWalkOf self.now run → IsTrue result ↔ MayFinish run machines.now }
+        ensures { (run : Run) → IsWalkOf self.now run → IsTrue result ↔ MayFinish run machines.now }
     {
         self.begun().is_none()
             && self.least_undone().is_none()
@@ -380,9 +353,8 @@ impl<'a> Walk<'a> {
     /// Whether the run, if it is open, may take a record that is its own; it takes no Estate and no
     /// Start. The caller says whether the run is the last of its plan.
     pub fn may_take(&self, plan: &Plan, is_last: bool, item: &Record) -> bool
-        ghost run: { Run }
-        ensures told { (runs : List Run) → (IsTrue is_last ↔ IsLastOfPlan runs run) → plan.now ≡ run.plan → IsWalkOf self.now run → IsTrue result ↔ MayTake runs run item.now }
-        ensures follows { plan.now ≡ run.plan → IsWalkOf self.now run → IsTrue result → run_named item.now ≡ self.now.run → MayFollow self.now.facts.now self.now.progress.now item.now }
+        ensures told { (run : Run) → (runs : List Run) → (IsTrue is_last ↔ IsLastOfPlan runs run) → plan.now ≡ run.plan → IsWalkOf self.now run → IsTrue result ↔ MayTake runs run item.now }
+        ensures follows { (run : Run) → plan.now ≡ run.plan → IsWalkOf self.now run → IsTrue result → run_named item.now ≡ self.now.run → MayFollow self.now.facts.now self.now.progress.now item.now }
     {
         match item {
             Record::Estate(_) | Record::Start(_) => false,

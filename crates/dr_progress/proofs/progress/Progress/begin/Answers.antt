@@ -1,4 +1,4 @@
-use Rattle.std.specs.Prelude.{ℕ, ◌≡◌, ◌+◌, ◌-◌, ◌<◌, ◌≤◌, ◌⊎◌, List, ◌∷◌, length, Some, None}
+use Rattle.std.specs.Prelude.{ℕ, ◌≡◌, ◌+◌, ◌-◌, ◌<◌, ◌≤◌, ◌⊎◌, List, ◌∷◌, length}
 use Rattle.std.proofs.Common.{refl, inl, inr, arith}
 use Rattle.dr_meaning.specs.Types.{Record}
 use Rattle.dr_progress.specs.declared.facts.Facts.{Facts}

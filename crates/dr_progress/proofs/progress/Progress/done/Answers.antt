@@ -1,4 +1,4 @@
-use Rattle.std.specs.Prelude.{ℕ, ◌≡◌, max, Some}
+use Rattle.std.specs.Prelude.{◌≡◌, max}
 use Rattle.std.proofs.Common.{sym, ◌∙◌, ap}
 use Rattle.dr_progress.specs.Progress.{WaitsBehind}
 use Rattle.dr_progress.proofs.DoneLaws.{done_keeps}

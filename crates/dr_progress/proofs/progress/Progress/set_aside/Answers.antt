@@ -2,7 +2,6 @@ use Rattle.std.specs.Prelude.{◌≡◌, ◌+◌, ◌≤◌, length}
 use Rattle.std.proofs.Common.{arith}
 use Rattle.dr_progress.specs.Progress.{asides_in, asides_at, left_in}
 use Rattle.dr_progress.proofs.CountLaws.{asides_few, left_few}
-use Rattle.dr_progress.proofs.FactLaws.{puts_excuse_only, puts_visit_only}
 use Rattle.dr_progress.proofs.ExcuseLaws.{aside_keeps}
 use Rattle.dr_progress.proofs.progress.Progress.set_aside.Goals as goal
 

@@ -1,4 +1,0 @@
-use Rattle.dr_walk.proofs.walk.Walk.least_undone.Given as goal
-
-abbrev pub ghost-first_unwalked : goal.ghost-first_unwalked
-ghost-first_unwalked g a = g.run
